@@ -1,0 +1,4 @@
+pub mod All
+pub mod Ascii
+pub mod Buffer
+pub mod BufferLaws
