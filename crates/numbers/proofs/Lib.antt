@@ -1,0 +1,6 @@
+mod Choice
+mod FixedNumber
+mod NarrowPattern
+mod Narrowing
+mod Patterns
+mod TwosComplement

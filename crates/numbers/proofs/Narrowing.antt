@@ -1,0 +1,384 @@
+-- What the narrowing of a binary64 value to binary32 rests on: the value that `round` makes of the fields, and its pattern.
+-- Assumes nothing.
+use mathlib.Core.Path.{_≡_, refl, sym, ap, _∙_, subst}
+use mathlib.Core.Logic.{_⊎_, inl, inr}
+use mathlib.Core.Bool.{Bool, true, false, not, cond}
+use Prim.Native.Nat.{ℕ, zero, suc, _+_, _-_, _*_, _/_, _%_, _^_, _≤_, _<_, compare, Ordering, Ordering·lt, Ordering·eq, Ordering·gt}
+use native.Mathlib.Nat.{le-trans, le-of-eq, le-of-lt, lt-irrefl, lt-of-lt-of-le, lt-of-le-of-lt, lt-of-not-le, not-le-of-lt, le-antisymm, mul-assoc, mul-comm, mul-left-comm, mul-one, mul-pos, mul-le-mul-right, mul-le-mul-left, mul-lt-mul-of-pos-right, mul-div-cancel, div-eq-of-lt, mod-eq-of-lt, div-lt-iff-lt-mul, le-div-iff-mul-le, eq-or-lt-of-le}
+use native.Mathlib.Omega.{arith}
+use lib.Dec.{T, ltb, eqb, isLe, isEq, leb→le, nleb→lt, ltb→lt, eqb→eq, eqb-refl}
+use native.Mathlib.Numerals.{add-one}
+use lib.Pow.{pow-add, pow-pos, pow-mono, shl-lt, shl-shr, shr-lt}
+use lib.Ieee.{Float, nan, inf, fin, binary32, binary64, up, down, size, nearest, odd, units, round, fits, ofBits, ofFields, toBits}
+use lib.Ieee.Digits.{size-lt, size-le}
+use lib.Ieee.Fits.{down-pos, odd-fits, inf-fits, cond-fits, round-is, nearest-le}
+use lib.Ieee.Exact.{HasValue, units-val}
+use lib.Ieee.Bits.{ofBits-toBits}
+use lib.Ieee.Nearest.{closest, closest-same, nearest-ge}
+use lib.Ieee.Scale.{round-same}
+use borrow.Author.Tests.{le-ltb}
+use Rattle.numbers.specs.Narrow.{narrow}
+use Rattle.numbers.proofs.Patterns.{low-value, field-value}
+
+-- ---- what `compare` gives
+
+module _ (a b : ℕ) where
+  cmp : (o : Ordering) → (T (isLe o) → a ≤ b) → (T (not (isLe o)) → b < a) → (T (isEq o) → a ≡ b) → (a ≡ b → T (isEq o))
+      → (a < b → o ≡ Ordering·lt) × (b < a → o ≡ Ordering·gt) × (a ≡ b → o ≡ Ordering·eq)
+  cmp Ordering·lt h k e n = ((λ x. refl), (λ x. absurd (lt-irrefl a (lt-of-le-of-lt (h tt) x))), (λ x. absurd (n x)))
+  cmp Ordering·eq h k e n = ((λ x. absurd (lt-irrefl a (subst (λ (y : ℕ). a < y) (sym (e tt)) x))), (λ x. absurd (lt-irrefl b (subst (λ (y : ℕ). b < y) (e tt) x))), (λ x. refl))
+  cmp Ordering·gt h k e n = ((λ x. absurd (lt-irrefl a (lt-of-lt-of-le x (le-of-lt (k tt))))), (λ x. refl), (λ x. absurd (n x)))
+
+  cmps : (a < b → compare a b ≡ Ordering·lt) × (b < a → compare a b ≡ Ordering·gt) × (a ≡ b → compare a b ≡ Ordering·eq)
+  cmps = cmp (compare a b) (leb→le a b) (nleb→lt a b) (eqb→eq a b) (λ (e : a ≡ b). subst (λ (x : ℕ). T (eqb a x)) e (eqb-refl a))
+
+  pub cmp-lt : a < b → compare a b ≡ Ordering·lt
+  cmp-lt h = cmps .0 h
+
+  pub cmp-gt : b < a → compare a b ≡ Ordering·gt
+  cmp-gt h = cmps .1 h
+
+  pub cmp-eq : a ≡ b → compare a b ≡ Ordering·eq
+  cmp-eq h = cmps .2 h
+
+-- ---- a value's narrowing, by its fraction
+
+of-value : (v : Float) (s : Bool) (a c : ℕ) → 0 < c → HasValue v s a c → narrow v ≡ round binary32 s a c
+unfolding narrow
+of-value nan s a c C h = absurd h
+of-value (inf t) s a c C h = absurd h
+of-value (fin t m e) s a c C h =
+    ap (λ (u : Bool). round binary32 u (m * up e) (down e)) (h .0) ∙ round-same binary32 s (m * up e) (down e) a c (down-pos e) C (h .1)
+
+-- ---- the pattern of a value, by its size in units of 2 ^ -149
+
+abbrev pattern : ℕ → ℕ → ℕ
+pattern c a = c + (size a - 24) * 2 ^ 23 + a / 2 ^ (size a - 24)
+
+toBits-value : (v : Float) (s : Bool) (a : ℕ) → HasValue v s a (2 ^ 149) → toBits binary32 v ≡ pattern (cond s (2 ^ 31) 0) a
+unfolding toBits
+toBits-value nan s a h = absurd h
+toBits-value (inf t) s a h = absurd h
+toBits-value (fin t m e) s a h =
+    ap (λ (x : ℕ). pattern (cond t (2 ^ 31) 0) x) (ap (λ (x : ℕ). x / down e) (h .1) ∙ mul-div-cancel a (down-pos e))
+    ∙ ap (λ (u : Bool). pattern (cond u (2 ^ 31) 0) a) (h .0)
+
+size-exact : (a n : ℕ) → 2 ^ a ≤ n → n < 2 ^ suc a → size n ≡ suc a
+size-exact a n lo hi =
+    le-antisymm (size-le n (suc a) hi)
+    (lt-of-not-le (λ (g : size n ≤ a). not-le-of-lt (lt-of-lt-of-le (size-lt n) (pow-mono g)) lo))
+
+monus-zero : (z : ℕ) → z ≤ 24 → z - 24 ≡ 0
+monus-zero z h = omega arith
+
+monus-k : (z k : ℕ) → z ≡ suc (23 + k) → z - 24 ≡ k
+monus-k z k h = omega arith
+
+monus-k1 : (z k : ℕ) → z ≡ suc (24 + k) → z - 24 ≡ 1 + k
+monus-k1 z k h = omega arith
+
+carry : (c k : ℕ) → c + (1 + k) * 8388608 + 8388608 ≡ c + k * 8388608 + 16777216
+carry c k = omega arith
+
+more-24 : (k : ℕ) → 24 + k ≡ suc (23 + k)
+more-24 k = omega arith
+
+more-25 : (k : ℕ) → 25 + k ≡ suc (24 + k)
+more-25 k = omega arith
+
+form-at : (c q k : ℕ) → size (q * 2 ^ k) - 24 ≡ k → pattern c (q * 2 ^ k) ≡ c + k * 2 ^ 23 + q
+form-at c q k z = ap (λ (j : ℕ). c + j * 2 ^ 23 + q * 2 ^ k / 2 ^ j) z ∙ ap (λ (x : ℕ). c + k * 2 ^ 23 + x) (shl-shr q k)
+
+form : (c q k : ℕ) → q ≤ 2 ^ 24 → (k ≡ 0) ⊎ (2 ^ 23 ≤ q) → pattern c (q * 2 ^ k) ≡ c + k * 2 ^ 23 + q
+form c q k le n = go (eq-or-lt-of-le le) n
+  where
+    go : (q ≡ 2 ^ 24) ⊎ (q < 2 ^ 24) → (k ≡ 0) ⊎ (2 ^ 23 ≤ q) → pattern c (q * 2 ^ k) ≡ c + k * 2 ^ 23 + q
+    go (inr l) (inl z) =
+        form-at c q k
+        (subst (λ (j : ℕ). size (q * 2 ^ j) - 24 ≡ j) (sym z)
+        (monus-zero (size (q * 1)) (size-le (q * 1) 24 (subst (λ (x : ℕ). x < 2 ^ 24) (sym (mul-one q)) l))))
+    go (inr l) (inr g) =
+        form-at c q k
+        (monus-k (size (q * 2 ^ k)) k
+        (size-exact (23 + k) (q * 2 ^ k) (le-trans (le-of-eq (pow-add 2 23 k)) (mul-le-mul-right (2 ^ k) g)) (subst (λ (x : ℕ). q * 2 ^ k < 2 ^ x) (more-24 k) (shl-lt 24 k l))))
+    go (inl e) m =
+        let a : q * 2 ^ k ≡ 2 ^ 24 * 2 ^ k = ap (λ (x : ℕ). x * 2 ^ k) e in
+        let z : size (2 ^ 24 * 2 ^ k) - 24 ≡ 1 + k =
+        monus-k1 (size (2 ^ 24 * 2 ^ k)) k
+        (size-exact (24 + k) (2 ^ 24 * 2 ^ k) (le-of-eq (pow-add 2 24 k)) (subst (λ (x : ℕ). 2 ^ 24 * 2 ^ k < 2 ^ x) (more-25 k) (shl-lt 25 k (omega arith)))) in
+        let d : 2 ^ 24 * 2 ^ k ≡ 2 ^ 23 * 2 ^ (1 + k) = sym (ap (λ (x : ℕ). 2 ^ 23 * x) (pow-add 2 1 k) ∙ sym (mul-assoc (2 ^ 23) 2 (2 ^ k))) in
+        ap (λ (x : ℕ). pattern c x) a
+        ∙ ap (λ (j : ℕ). c + j * 2 ^ 23 + 2 ^ 24 * 2 ^ k / 2 ^ j) z
+        ∙ ap (λ (x : ℕ). c + (1 + k) * 2 ^ 23 + x) (ap (λ (x : ℕ). x / 2 ^ (1 + k)) d ∙ shl-shr (2 ^ 23) (1 + k))
+        ∙ carry c k
+        ∙ ap (λ (x : ℕ). c + k * 2 ^ 23 + x) (sym e)
+
+units-fits : (s : Bool) (q k : ℕ) → q ≤ 2 ^ 24 → q * 2 ^ k < 2 ^ 277 → T (fits binary32 (units binary32 s q k))
+unfolding units
+units-fits s q k le h =
+    cond-fits binary32 (ltb (q * 2 ^ k) (2 ^ 277)) (odd 25 s q k 149) (inf s)
+    (odd-fits binary32 25 s q k (lt-of-le-of-lt le (omega arith)) le h) (inf-fits binary32 s)
+
+-- ---- the pattern k * 2 ^ 23 + q stands for q * 2 ^ k units
+
+units-bits : (s : Bool) (q k : ℕ) → q ≤ 2 ^ 24 → (k ≡ 0) ⊎ (2 ^ 23 ≤ q) → q * 2 ^ k < 2 ^ 277
+    → ofBits binary32 (cond s (2 ^ 31) 0 + k * 2 ^ 23 + q) ≡ units binary32 s q k
+units-bits s q k le n h =
+    ap (ofBits binary32) (sym (toBits-value (units binary32 s q k) s (q * 2 ^ k) (units-val binary32 s q k h) ∙ form (cond s (2 ^ 31) 0) q k le n))
+    ∙ ofBits-toBits binary32 (units binary32 s q k) (units-fits s q k le h)
+
+units-inf : (s : Bool) (q k : ℕ) → 2 ^ 277 ≤ q * 2 ^ k → units binary32 s q k ≡ inf s
+unfolding units
+units-inf s q k h = ap (λ (b : Bool). cond b (odd 25 s q k 149) (inf s)) (le-ltb (q * 2 ^ k) (2 ^ 277) h)
+
+pub inf-bits : (s : Bool) → ofBits binary32 (cond s (2 ^ 31) 0 + 0x7f80_0000) ≡ inf s
+unfolding ofBits
+inf-bits true = refl
+inf-bits false = refl
+
+-- ---- where the largest exponent ends
+
+least : (q k : ℕ) → 0x7f80_0000 ≤ k * 8388608 + q → q ≤ 16777216 → (k ≡ 0) ⊎ (8388608 ≤ q) → 8388608 ≤ q
+least q k h le (inl z) = absurd (no q k h le z)
+  where
+    no : (q k : ℕ) → 0x7f80_0000 ≤ k * 8388608 + q → q ≤ 16777216 → k ≡ 0 → ⊥
+    no q k h le z = omega arith
+least q k h le (inr g) = g
+
+big : (q k : ℕ) → 0x7f80_0000 ≤ k * 8388608 + q → q ≤ 16777216 → 8388608 ≤ q → 2 ^ 277 ≤ q * 2 ^ k
+big q k h le g = go (eq-or-lt-of-le (omega arith))
+  where
+    go : (253 ≡ k) ⊎ (253 < k) → 2 ^ 277 ≤ q * 2 ^ k
+    go (inl e) = le-trans (mul-le-mul-right (2 ^ 253) (full e)) (le-of-eq (ap (λ (x : ℕ). q * 2 ^ x) e))
+      where
+        full : 253 ≡ k → 2 ^ 24 ≤ q
+        full e = omega arith
+    go (inr l) = le-trans (mul-le-mul-right (2 ^ 254) g) (mul-le-mul-left q (pow-mono l))
+
+fine : (q k : ℕ) → k * 8388608 + q < 0x7f80_0000 → q ≤ 16777216 → (k ≡ 0) ⊎ (8388608 ≤ q) → q * 2 ^ k < 2 ^ 277
+fine q k h le (inl z) = lt-of-le-of-lt (le-of-eq (ap (λ (x : ℕ). q * 2 ^ x) z ∙ mul-one q)) (lt-of-le-of-lt le (pow-lt-lit tt))
+  where
+    pow-lt-lit : T (ltb 16777216 (2 ^ 277)) → 16777216 < 2 ^ 277
+    pow-lt-lit t = ltb→lt 16777216 (2 ^ 277) t
+fine q k h le (inr g) = go (eq-or-lt-of-le (omega arith))
+  where
+    go : (k ≡ 253) ⊎ (k < 253) → q * 2 ^ k < 2 ^ 277
+    go (inl e) = lt-of-le-of-lt (le-of-eq (ap (λ (x : ℕ). q * 2 ^ x) e)) (shl-lt 24 253 (small e))
+      where
+        small : k ≡ 253 → q < 2 ^ 24
+        small e = omega arith
+    go (inr l) = lt-of-lt-of-le (shl-lt 25 k (lt-of-le-of-lt le (omega arith))) (pow-mono (room l))
+      where
+        room : k < 253 → 25 + k ≤ 277
+        room l = omega arith
+
+-- ---- what `round` makes of q * 2 ^ k / 2 ^ 1074
+
+abbrev frac : ℕ → ℕ → ℕ
+frac q k = q * 2 ^ k * 2 ^ 149
+
+at-drop : (s : Bool) (q k j b : ℕ) → 0 < b → size (frac q k / 2 ^ 1074) - 24 ≡ j → frac q k * b ≡ q * (2 ^ 1074 * 2 ^ j)
+    → round binary32 s (q * 2 ^ k) (2 ^ 1074) ≡ units binary32 s (closest q b) j
+at-drop s q k j b B z e =
+    round-is binary32 s (q * 2 ^ k) (2 ^ 1074)
+    ∙ ap (λ (i : ℕ). units binary32 s (closest (frac q k) (2 ^ 1074 * 2 ^ i)) i) z
+    ∙ ap (λ (x : ℕ). units binary32 s x j) (closest-same (frac q k) (2 ^ 1074 * 2 ^ j) q b (mul-pos (pow-pos 1074) (pow-pos j)) B e)
+
+-- in the normal range
+normal : (s : Bool) (q j : ℕ) → 2 ^ 52 ≤ q → q < 2 ^ 53 → round binary32 s (q * 2 ^ (896 + j)) (2 ^ 1074) ≡ units binary32 s (closest q (2 ^ 29)) j
+normal s q j lo hi =
+    let n = frac q (896 + j) in
+    let is : n ≡ q * 2 ^ j * 2 ^ 1045 =
+    ap (λ (x : ℕ). q * x * 2 ^ 149) (pow-add 2 896 j)
+    ∙ shuffle q (2 ^ 896) (2 ^ j) (2 ^ 149) in
+    let low : 2 ^ (23 + j) * 2 ^ 1074 ≤ n =
+    le-trans (le-of-eq (ap (λ (x : ℕ). x * 2 ^ 1074) (pow-add 2 23 j) ∙ split (2 ^ 23) (2 ^ j) (2 ^ 29) (2 ^ 1045)))
+    (le-trans (mul-le-mul-right (2 ^ 1045) (mul-le-mul-right (2 ^ j) lo)) (le-of-eq (sym is))) in
+    let high : n < 2 ^ suc (23 + j) * 2 ^ 1074 =
+    lt-of-le-of-lt (le-of-eq is)
+    (lt-of-lt-of-le (mul-lt-mul-of-pos-right (mul-lt-mul-of-pos-right hi (pow-pos j)) (pow-pos 1045))
+    (le-of-eq (sym (ap (λ (x : ℕ). 2 ^ x * 2 ^ 1074) (sym (more-24 j)) ∙ ap (λ (x : ℕ). x * 2 ^ 1074) (pow-add 2 24 j) ∙ split (2 ^ 24) (2 ^ j) (2 ^ 29) (2 ^ 1045))))) in
+    at-drop s q (896 + j) j (2 ^ 29) (pow-pos 29)
+    (monus-k (size (n / 2 ^ 1074)) j (size-exact (23 + j) (n / 2 ^ 1074) (le-div-iff-mul-le (pow-pos 1074) .1 low) (div-lt-iff-lt-mul (pow-pos 1074) .1 high)))
+    (ap (λ (x : ℕ). x * 2 ^ 29) is ∙ last q (2 ^ j) (2 ^ 1045) (2 ^ 29))
+  where
+    shuffle : (q a b c : ℕ) → q * (a * b) * c ≡ q * b * (a * c)
+    shuffle q a b c = simp (mul-assoc, mul-left-comm)
+
+    split : (a b c d : ℕ) → a * b * (c * d) ≡ a * c * b * d
+    split a b c d = simp (mul-assoc, mul-comm)
+
+    last : (q a b c : ℕ) → q * a * b * c ≡ q * (b * c * a)
+    last q a b c = simp (mul-assoc, mul-comm, mul-left-comm)
+
+-- below it
+subnormal : (s : Bool) (q k : ℕ) → q < 2 ^ 53 → k < 896 → round binary32 s (q * 2 ^ k) (2 ^ 1074) ≡ units binary32 s (closest q (2 ^ (925 - k))) 0
+subnormal s q k hi h =
+    let n = frac q k in
+    let e : n * 2 ^ (925 - k) ≡ q * 2 ^ 1074 =
+    shuffle q (2 ^ k) (2 ^ 149) (2 ^ (925 - k)) ∙ ap (λ (x : ℕ). q * x) (ap (λ (x : ℕ). x * 2 ^ 149) (sym (pow-add 2 k (925 - k)) ∙ ap (λ (x : ℕ). 2 ^ x) (whole k h))) in
+    let high : n < 2 ^ 24 * 2 ^ 1074 =
+    lt-of-lt-of-le (mul-lt-mul-of-pos-right (shl-lt 53 k hi) (pow-pos 149))
+    (le-trans (mul-le-mul-right (2 ^ 149) (pow-mono (room k h))) (leb→le (2 ^ 949 * 2 ^ 149) (2 ^ 24 * 2 ^ 1074) tt)) in
+    at-drop s q k 0 (2 ^ (925 - k)) (pow-pos (925 - k))
+    (monus-zero (size (n / 2 ^ 1074)) (size-le (n / 2 ^ 1074) 24 (div-lt-iff-lt-mul (pow-pos 1074) .1 high)))
+    e
+  where
+    shuffle : (q a b c : ℕ) → q * a * b * c ≡ q * (a * c * b)
+    shuffle q a b c = simp (mul-assoc, mul-comm)
+
+    whole : (k : ℕ) → k < 896 → k + (925 - k) ≡ 925
+    whole k h = omega arith
+
+    room : (k : ℕ) → k < 896 → 53 + k ≤ 949
+    room k h = omega arith
+
+-- ---- the bounds of the rounded quotient
+
+closest-zero : (q d : ℕ) → q * 2 < 2 ^ d → closest q (2 ^ d) ≡ 0
+closest-zero q d h =
+    let l : q < 2 ^ d = lt-of-le-of-lt (twice q) h in
+    ap (λ (w : ℕ). nearest w (compare (q % 2 ^ d * 2) (2 ^ d))) (div-eq-of-lt l)
+    ∙ ap (λ (r : ℕ). nearest 0 (compare (r * 2) (2 ^ d))) (mod-eq-of-lt l)
+    ∙ ap (nearest 0) (cmp-lt (q * 2) (2 ^ d) h)
+  where
+    twice : (q : ℕ) → q ≤ q * 2
+    twice q = omega arith
+
+pub closest-le : (q d b : ℕ) → q < 2 ^ (b + d) → closest q (2 ^ d) ≤ 2 ^ b
+closest-le q d b h = le-trans (nearest-le (q / 2 ^ d) (compare (q % 2 ^ d * 2) (2 ^ d))) (shr-lt b d h)
+
+closest-ge : (q d b : ℕ) → 2 ^ (b + d) ≤ q → 2 ^ b ≤ closest q (2 ^ d)
+closest-ge q d b h =
+    le-trans (le-div-iff-mul-le (pow-pos d) .1 (le-trans (le-of-eq (sym (pow-add 2 b d))) h))
+    (nearest-ge (q / 2 ^ d) (compare (q % 2 ^ d * 2) (2 ^ d)))
+
+-- ---- the fields of a finite binary64 value
+
+lead : (t : ℕ) → t < 2 ^ 52 → 2 ^ 52 + t < 2 ^ 53
+lead t h = omega arith
+
+-- ---- the three answers of the code
+
+-- the pattern r, with either sign, is what the fields narrow to
+abbrev pub Narrows : ℕ → ℕ → ℕ → Type 0
+Narrows field t r = (s : Bool) → ofBits binary32 (cond s (2 ^ 31) 0 + r) ≡ narrow (ofFields binary64 s field t)
+
+zero-bits : (s : Bool) → cond s (2 ^ 31) 0 + 0 ≡ cond s (2 ^ 31) 0 + 0 * 2 ^ 23 + 0
+zero-bits true = refl
+zero-bits false = refl
+
+tiny-is : (s : Bool) (v : Float) (q k : ℕ) → q < 2 ^ 53 → k < 871 → HasValue v s (q * 2 ^ k) (2 ^ 1074) → ofBits binary32 (cond s (2 ^ 31) 0 + 0) ≡ narrow v
+tiny-is s v q k hi h value =
+    ap (ofBits binary32) (zero-bits s)
+    ∙ units-bits s 0 0 (omega arith) (inl refl) (fine 0 0 (omega arith) (omega arith) (inl refl))
+    ∙ ap (λ (x : ℕ). units binary32 s x 0) (sym (closest-zero q (925 - k) (lt-of-lt-of-le (shl-lt 53 1 hi) (pow-mono (room k h)))))
+    ∙ sym (subnormal s q k hi (under k h))
+    ∙ sym (of-value v s (q * 2 ^ k) (2 ^ 1074) (pow-pos 1074) value)
+  where
+    room : (k : ℕ) → k < 871 → 54 ≤ 925 - k
+    room k h = omega arith
+
+    under : (k : ℕ) → k < 871 → k < 896
+    under k h = omega arith
+
+pub tiny : (field t : ℕ) → field < 872 → t < 2 ^ 52 → Narrows field t 0
+tiny zero t h g s = tiny-is s (ofFields binary64 s 0 t) t 0 (more t g) (omega arith) (low-value binary64 s t)
+  where
+    more : (t : ℕ) → t < 2 ^ 52 → t < 2 ^ 53
+    more t g = omega arith
+tiny (suc x) t h g s = tiny-is s (ofFields binary64 s (suc x) t) (2 ^ 52 + t) x (lead t g) (less x h) (field-value binary64 s x t (under x h))
+  where
+    less : (x : ℕ) → suc x < 872 → x < 871
+    less x h = omega arith
+
+    under : (x : ℕ) → suc x < 872 → suc x < 2047
+    under x h = omega arith
+
+-- a field above 0 is the successor of the number before it
+at-suc : (P : ℕ → Type 0) (field x : ℕ) → field ≡ suc x → P (suc x) → P field
+at-suc P field x e p = subst P (sym e) p
+
+no-k : (c q : ℕ) → c + q ≡ c + 0 * 8388608 + q
+no-k c q = omega arith
+
+with-k : (c j q : ℕ) → c + (j * 8388608 + q) ≡ c + j * 8388608 + q
+with-k c j q = omega arith
+
+pub low-le : (field t : ℕ) → field < 897 → t < 2 ^ 52 → closest (2 ^ 52 + t) (2 ^ (926 - field)) ≤ 2 ^ 24
+low-le field t h g = closest-le (2 ^ 52 + t) (926 - field) 24 (lt-of-lt-of-le (lead t g) (pow-mono (room field h)))
+  where
+    room : (f : ℕ) → f < 897 → 53 ≤ 24 + (926 - f)
+    room f h = omega arith
+
+pub small : (field t : ℕ) → 872 ≤ field → field < 897 → t < 2 ^ 52 → Narrows field t (closest (2 ^ 52 + t) (2 ^ (926 - field)))
+small zero t lo h g s = absurd (no lo)
+  where
+    no : 872 ≤ 0 → ⊥
+    no h = omega arith
+small (suc x) t lo h g s =
+    let q = 2 ^ 52 + t in
+    let r = closest q (2 ^ (926 - suc x)) in
+    let le : r ≤ 2 ^ 24 = low-le (suc x) t h g in
+    ap (ofBits binary32) (no-k (cond s (2 ^ 31) 0) r)
+    ∙ units-bits s r 0 le (inl refl) (fine r 0 (under r le) le (inl refl))
+    ∙ ap (λ (d : ℕ). units binary32 s (closest q (2 ^ d)) 0) (pred x)
+    ∙ sym (subnormal s q x (lead t g) (less x h))
+    ∙ sym (of-value (ofFields binary64 s (suc x) t) s (q * 2 ^ x) (2 ^ 1074) (pow-pos 1074) (field-value binary64 s x t (finite x h)))
+  where
+    under : (r : ℕ) → r ≤ 2 ^ 24 → 0 * 8388608 + r < 0x7f80_0000
+    under r h = omega arith
+
+    pred : (x : ℕ) → 926 - suc x ≡ 925 - x
+    pred x = omega arith
+
+    less : (x : ℕ) → suc x < 897 → x < 896
+    less x h = omega arith
+
+    finite : (x : ℕ) → suc x < 897 → suc x < 2047
+    finite x h = omega arith
+
+pub top-le : (t : ℕ) → t < 2 ^ 52 → closest (2 ^ 52 + t) (2 ^ 29) ≤ 2 ^ 24
+top-le t g = closest-le (2 ^ 52 + t) 29 24 (lead t g)
+
+module _ (field t : ℕ) (lo : 897 ≤ field) (h : field < 2047) (g : t < 2 ^ 52) where
+  abbrev j : ℕ
+  j = field - 897
+
+  abbrev r : ℕ
+  r = closest (2 ^ 52 + t) (2 ^ 29)
+
+  ge : 2 ^ 23 ≤ r
+  ge = closest-ge (2 ^ 52 + t) 29 23 (omega arith)
+
+  is : (s : Bool) → units binary32 s r j ≡ narrow (ofFields binary64 s field t)
+  is s =
+      at-suc (λ (f : ℕ). units binary32 s r j ≡ narrow (ofFields binary64 s f t)) field (896 + j) (whole field lo)
+      (sym (normal s (2 ^ 52 + t) j (omega arith) (lead t g))
+      ∙ sym (of-value (ofFields binary64 s (suc (896 + j)) t) s ((2 ^ 52 + t) * 2 ^ (896 + j)) (2 ^ 1074) (pow-pos 1074) (field-value binary64 s (896 + j) t (finite field lo h))))
+    where
+      whole : (f : ℕ) → 897 ≤ f → f ≡ suc (896 + (f - 897))
+      whole f h = omega arith
+
+      finite : (f : ℕ) → 897 ≤ f → f < 2047 → suc (896 + (f - 897)) < 2047
+      finite f l h = omega arith
+
+  pub large : j * 2 ^ 23 + r < 0x7f80_0000 → Narrows field t (j * 2 ^ 23 + r)
+  large l s =
+      ap (ofBits binary32) (with-k (cond s (2 ^ 31) 0) j r)
+      ∙ units-bits s r j (top-le t g) (inr ge) (fine r j l (top-le t g) (inr ge))
+      ∙ is s
+
+  pub over : 0x7f80_0000 ≤ j * 2 ^ 23 + r → Narrows field t 0x7f80_0000
+  over l s = inf-bits s ∙ sym (units-inf s r j (big r j l (top-le t g) ge)) ∙ is s
+
+-- ---- the quotient by a shift
+
+pub at-lt : (q u : ℕ) → q % u * 2 < u → q / u ≡ closest q u
+at-lt q u h = sym (ap (nearest (q / u)) (cmp-lt (q % u * 2) u h))
+
+pub at-gt : (q u : ℕ) → u < q % u * 2 → q / u + 1 ≡ closest q u
+at-gt q u h = add-one (q / u) ∙ sym (ap (nearest (q / u)) (cmp-gt (q % u * 2) u h))
+
+pub at-eq : (q u : ℕ) → u ≤ q % u * 2 → q % u * 2 ≤ u → q / u + q / u % 2 ≡ closest q u
+at-eq q u h g = sym (ap (nearest (q / u)) (cmp-eq (q % u * 2) u (le-antisymm g h)))

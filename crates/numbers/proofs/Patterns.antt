@@ -1,0 +1,70 @@
+-- The bit patterns of binary32 and binary64 values, by their fields: the narrowing and the fixed numbers both start from them.
+-- Assumes nothing.
+use Prim.Native.Nat.{ℕ, suc, _+_, _*_, _/_, _%_, _^_, _≤_, _<_}
+use mathlib.Core.Path.{_≡_, refl, sym, _∙_, subst}
+use mathlib.Core.Bool.{Bool, not, cond, false, true≢false}
+use native.Mathlib.Nat.{one-mul, lt-of-le-of-lt, div-le-self, mod-le}
+use native.Mathlib.Omega.{arith}
+use lib.Dec.{T, leb, eqb}
+use lib.Pow.{shl-exact}
+use lib.Ieee.{Float, nan, inf, fin, Format, binary32, binary64, prec, low, hid, ones, top, odd, fits, isNan, ofBits, ofFields, toBits, nanBits, ne, div}
+use lib.Ieee.Bits.{ofBits-toBits, nanBits-above}
+use lib.Ieee.Exact.{HasValue, odd-sign}
+use borrow.Author.Tests.{ne-eqb, le-ltb}
+
+-- a value that equals itself is no NaN
+pub equals-itself : (x : Float) → ne x x ≡ false → T (not (isNan x))
+unfolding ne isNan
+equals-itself nan h = absurd (true≢false h)
+equals-itself (inf s) h = tt
+equals-itself (fin s m e) h = tt
+
+-- a value is that of its pattern's fields
+pub fields-of : (f : Format) (x : Float) → T (fits f x)
+    → ofFields f (leb (top f) (toBits f x)) (toBits f x % top f / hid f) (toBits f x % hid f) ≡ x
+unfolding ofBits
+fields-of f x F = ofBits-toBits f x F
+
+-- the largest exponent field is that of an infinity or a NaN
+pub at-top : (f : Format) (s : Bool) (t : ℕ) → ofFields f s (ones f) t ≡ cond (eqb t 0) (inf s) nan
+unfolding ofFields
+at-top binary32 s t = refl
+at-top binary64 s t = refl
+
+-- ---- the value of the fields below it
+
+pub low-value : (f : Format) (s : Bool) (t : ℕ) → HasValue (ofFields f s 0 t) s (t * 2 ^ 0) (2 ^ low f)
+unfolding ofFields
+low-value f s t = odd-sign (prec f) s t 0 (low f)
+
+pub field-value : (f : Format) (s : Bool) (x t : ℕ) → suc x < ones f → HasValue (ofFields f s (suc x) t) s ((hid f + t) * 2 ^ x) (2 ^ low f)
+unfolding ofFields
+field-value f s x t h =
+    subst (λ (b : Bool). HasValue (cond b (cond (eqb t 0) (inf s) nan) (odd (prec f) s (hid f + t) x (low f))) s ((hid f + t) * 2 ^ x) (2 ^ low f))
+    (sym (ne-eqb (suc x) (ones f) (unequal (suc x) (ones f) h))) (odd-sign (prec f) s (hid f + t) x (low f))
+  where
+    unequal : (y z : ℕ) → y < z → y ≡ z → ⊥
+    unequal y z h e = omega arith
+
+-- ---- NaN patterns
+
+-- up to the infinity's pattern, the sign aside, no pattern is a NaN's
+pub no-nan : (b : ℕ) → b % 2 ^ 31 ≤ 0x7f80_0000 → T (not (nanBits binary32 b))
+no-nan b h = subst (λ (t : Bool). T (not t)) (sym (nanBits-above binary32 b ∙ le-ltb 0x7f80_0000 (b % 2 ^ 31) h)) tt
+
+-- 0.0 / 0.0, each by its pattern
+pub zero-by-zero : div binary32 (ofBits binary32 0) (ofBits binary32 0) ≡ nan
+unfolding div ofBits
+zero-by-zero = refl
+
+-- ---- the power of two that `1u64 << d` is
+
+pub shift : (d : ℕ) → d < 64 → 1 * 2 ^ d % 2 ^ 64 ≡ 2 ^ d
+shift d h = shl-exact 1 d 64 (omega arith) (omega arith) ∙ one-mul (2 ^ d)
+
+-- a quotient and a rest are no larger than what is divided
+pub quotient-lt : (q u : ℕ) {n : ℕ} → q < n → q / u < n
+quotient-lt q u h = lt-of-le-of-lt (div-le-self q u) h
+
+pub rest-lt : (q u : ℕ) {n : ℕ} → q < n → q % u < n
+rest-lt q u h = lt-of-le-of-lt (mod-le q u) h

@@ -1,0 +1,86 @@
+-- The number is that of the pattern's fields, and the rounded number tells the range: the laws `refused-far`, `refused-near`, `kept`.
+-- Assumes nothing.
+use Prim.Native.Nat.{ℕ, _-_, _/_, _%_, _^_, _<_}
+use mathlib.Core.Path.{_≡_, sym, ap, ap₂, _∙_, subst}
+use native.Mathlib.Omega.{arith}
+use lib.Dec.{T}
+use lib.Ieee.{Float, binary32, fits, toBits}
+use mir.Syntax.{w32}
+use mir.ValLaws.{toZ-ofZ}
+use borrow.Author.Needs.{needs}
+use Rattle.numbers.specs.declared.fixed.S15Fixed16.the-variants.{Number}
+use Rattle.numbers.proofs.FixedNumber.{nan-refused, b-lt, digits-lt, digitsOf, scaledOf, refused-far, refused-near, kept}
+use Rattle.numbers.proofs.Patterns.{equals-itself}
+use Rattle.numbers.proofs.fixed.to_s15_fixed_16.Statement.{statement}
+use Rattle.numbers.proofs.fixed.to_s15_fixed_16.Tie as tie
+
+abbrev x : tie.Start → Float
+x s = s .args .value
+
+-- what owning an `f32` tells: the format holds it
+held : (s : tie.Start) → T (fits binary32 (x s))
+held s = subst T (sym (s .good .0 .1)) tt
+
+returns : tie.Need-returns
+returns c = nan-refused (x (c .before)) (c .if1 .taken)
+
+float-to-bits-b : tie.Need-float-to-bits-b
+float-to-bits-b c = equals-itself (x (c .before)) (c .if1 .left)
+
+cast-b : tie.Need-cast-b
+cast-b c = omega (arith, b-lt (x (c .before)) (held (c .before)))
+
+returns-2 : tie.Need-returns-2
+returns-2 c = refused-far (x (c .before .before)) (held (c .before .before)) (c .if2 .taken)
+
+significand-requires : tie.Need-significand-requires
+significand-requires c κs = search needs
+
+exponent-requires : tie.Need-exponent-requires
+exponent-requires c κs = search needs
+
+scaled-requires : tie.Need-scaled-requires
+scaled-requires c κs =
+    let s = c .before .before .before .before in (
+      subst (λ (q : ℕ). q < 2 ^ 24) (sym (c .before .significand .ensures)) (digits-lt (x s) (held s)),
+      omega (arith, c .exponent .ensures, c .before .before .if2 .left),
+    )
+
+module _ (c : tie.After-scaled) where
+  abbrev start : tie.Start
+  start = c .before .before .before .before .before
+
+  abbrev b : ℕ
+  b = toBits binary32 (x start)
+
+  number : c .scaled .result ≡ scaledOf (digitsOf (b % 2 ^ 31 / 2 ^ 23) (b % 2 ^ 23)) (b % 2 ^ 31 / 2 ^ 23 - 1)
+  number = c .scaled .ensures .0 ∙ ap₂ (λ (q k : ℕ). scaledOf q k) (c .before .before .significand .ensures) (c .before .exponent .ensures)
+
+returns-3 : tie.Need-returns-3
+returns-3 c =
+    let n = c .before in
+    refused-near (x (start n)) (held (start n)) (n .before .before .before .if2 .left) (n .scaled .result) (number n) (c .if3 .taken)
+
+with-sign-requires : tie.Need-with-sign-requires
+with-sign-requires c κs = search needs
+
+returns-4 : tie.Need-returns-4
+returns-4 c =
+    let n = c .before .before in
+    ap Number (toZ-ofZ w32 (c .with-sign .result) (record { sfits = c .with-sign .ok }) ∙ c .with-sign .ensures)
+    ∙ kept (x (start n)) (held (start n)) (n .before .before .before .if2 .left) (n .scaled .result) (number n) (c .before .if3 .left)
+
+pub to-s15-fixed-16-spec : {M : Type 1} → statement M
+to-s15-fixed-16-spec =
+    tie.close
+    (tie.spec
+    returns
+    float-to-bits-b
+    cast-b
+    returns-2
+    significand-requires
+    exponent-requires
+    scaled-requires
+    returns-3
+    with-sign-requires
+    returns-4)

@@ -1,0 +1,38 @@
+// The bits of a signed number and of a float, as unsigned numbers.
+
+ghost use mathlib.Core.Path.{_≡_};
+ghost use lib.Ieee.{binary32, ofBits};
+ghost use Rattle.numbers.specs.Words.{twosComplement32, signed32};
+
+// A cast takes no negative number: its distance below -1 is taken from all ones.
+pub fn i32_to_bits(v: i32) -> u32
+    ensures { λ r. ⌜ r ≡ twosComplement32 v ⌝ }
+{
+    if v < 0 {
+        4294967295 - ((-1 - v) as u32)
+    } else {
+        v as u32
+    }
+}
+
+// The way back.
+pub fn i32_from_bits(b: u32) -> i32
+    ensures { λ r. ⌜ r ≡ signed32 b ⌝ }
+{
+    if b < 2147483648 {
+        b as i32
+    } else {
+        -1 - ((4294967295 - b) as i32)
+    }
+}
+
+// f32::from_bits takes no NaN's pattern; every one of them stands for the one NaN.
+pub fn f32_from_bits(bits: u32) -> f32
+    ensures { λ r. ⌜ r ≡ ofBits binary32 bits ⌝ }
+{
+    if 0x7f80_0000 < bits % 2147483648 {
+        0.0 / 0.0
+    } else {
+        f32::from_bits(bits)
+    }
+}
