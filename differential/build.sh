@@ -1,0 +1,37 @@
+#!/bin/sh
+# Builds the judge: the original Rust, unchanged, and our program around it.
+#
+#   differential/build.sh [SRC] [OUT]
+#
+# SRC is the folder of the original sources (it holds jxl/src/api/color.rs); without it,
+# shared/docs/src beside the repository. OUT takes the workspace and what is built; without it,
+# target/differential of the repository, which git ignores. The program is then
+# OUT/target/release/judge.
+set -eu
+
+here=$(cd "$(dirname "$0")" && pwd)
+src=${1:-$here/../../shared/docs/src}
+out=${2:-$here/../target/differential}
+
+# The sources must be the very files that the port was made from.
+(cd "$src" && sha256sum --check --strict --quiet "$here/SHA256SUMS")
+
+# Our part is copied anew each time, so that nothing old stays in OUT.
+crates='jxl jxl_simd jxl_macros num_derive byteorder judge'
+mkdir -p "$out"
+for crate in $crates; do
+    rm -rf "${out:?}/$crate"
+    cp -R "$here/$crate" "$out/$crate"
+done
+cp "$here/Cargo.toml" "$out/Cargo.toml"
+
+# The original's files, at their own paths, byte for byte.
+while read -r _ file; do
+    cp "$src/$file" "$out/$file"
+    cmp "$src/$file" "$out/$file"
+done <"$here/SHA256SUMS"
+
+cd "$out"
+cargo build --release --offline --quiet --target-dir "$PWD/target"
+(sha256sum --check --strict --quiet "$here/SHA256SUMS")
+echo "built $PWD/target/release/judge"

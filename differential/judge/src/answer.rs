@@ -1,0 +1,135 @@
+//! The original's answer to an encoding, by the refusal numbers of the scope.
+//!
+//! The original has one error for 5, 7 and 8. They are told apart by calling its own pieces in its
+//! order; what they say is then held against the error of the whole call.
+
+use jxl::api::color::{JxlColorEncoding, open};
+use jxl::error::Error;
+
+use crate::encoding::{Encoding, GAMMA, GRAY, XYB};
+use crate::leaves;
+
+/// The profile, or the number of the refusal (1 to 8).
+///
+/// # Panics
+/// If the pieces and the whole call disagree, or a number of the encoding has no meaning.
+pub fn profile(encoding: &Encoding) -> Result<Vec<u8>, u32> {
+    let original = meaning(encoding);
+    if encoding.is_pq_or_hlg() {
+        return Err(1);
+    }
+    let pieces = by_pieces(encoding);
+    let whole = original.maybe_create_profile();
+    match (whole, pieces) {
+        (Ok(Some(bytes)), Ok(())) => Ok(bytes),
+        (Err(error), Err(refusal)) if refusal.is(&error) => Err(refusal.number),
+        (whole, pieces) => panic!("{encoding:?}: the whole {whole:?}, the pieces {pieces:?}"),
+    }
+}
+
+/// The same for an output of `room` bytes, which adds refusal 9.
+pub fn profile_within(encoding: &Encoding, room: usize) -> Result<Vec<u8>, u32> {
+    let bytes = profile(encoding)?;
+    if bytes.len() > room {
+        return Err(9);
+    }
+    Ok(bytes)
+}
+
+/// The text of the profile's description; PQ and HLG have one too.
+pub fn description(encoding: &Encoding) -> String {
+    meaning(encoding).get_color_encoding_description()
+}
+
+fn meaning(encoding: &Encoding) -> JxlColorEncoding {
+    encoding
+        .original()
+        .unwrap_or_else(|| panic!("a number without meaning in {encoding:?}"))
+}
+
+/// A refusal that the pieces lead to; `value` is the float that does not fit, for 5, 7 and 8.
+#[derive(Debug)]
+struct Refusal {
+    number: u32,
+    value: Option<f32>,
+}
+
+impl Refusal {
+    fn plain(number: u32) -> Self {
+        Self {
+            number,
+            value: None,
+        }
+    }
+
+    /// Whether the original's error is this refusal.
+    fn is(&self, error: &Error) -> bool {
+        match (error, self.number) {
+            (Error::InvalidRenderingIntent, 2) => true,
+            (Error::IccInvalidWhitePointY(_), 3) => true,
+            (Error::IccInvalidWhitePoint(..), 4) => true,
+            (Error::MatrixInversionFailed(_), 6) => true,
+            (Error::IccValueOutOfRangeS15Fixed16(found), 5 | 7 | 8) => self
+                .value
+                .is_some_and(|value| same_or_both_nan(value, *found)),
+            _ => false,
+        }
+    }
+}
+
+fn same_or_both_nan(a: f32, b: f32) -> bool {
+    a.to_bits() == b.to_bits() || (a.is_nan() && b.is_nan())
+}
+
+/// The first refusal, in the original's order, by its own pieces.
+fn by_pieces(encoding: &Encoding) -> Result<(), Refusal> {
+    if encoding.kind == XYB {
+        return if encoding.intent == 0 {
+            Ok(())
+        } else {
+            Err(Refusal::plain(2))
+        };
+    }
+    let (wx, wy) = encoding.white.coordinates().expect("a kind with meaning");
+    if encoding.kind == GRAY {
+        let white = piece(open::cie_xyz_from_white_cie_xy(wx, wy))?;
+        fit(7, white)?;
+    } else {
+        let chad = piece(open::adapt_to_xyz_d50(wx, wy))?;
+        fit(5, chad.into_iter().flatten().map(|value| value as f32))?;
+        let xy = encoding.primaries.coordinates();
+        let xy = xy.expect("a kind with meaning");
+        let rows = piece(open::create_icc_rgb_matrix(xy, wx, wy))?;
+        // The writer goes by columns: red, green, blue.
+        fit(7, (0..9).map(|at| rows[at % 3][at / 3]))?;
+    }
+    if encoding.curve.kind == GAMMA {
+        fit(8, [1.0 / f32::from_bits(encoding.curve.gamma)])?;
+    }
+    Ok(())
+}
+
+/// A piece's own error, as a refusal.
+fn piece<T>(answer: Result<T, Error>) -> Result<T, Refusal> {
+    answer.map_err(|error| {
+        Refusal::plain(match error {
+            Error::IccInvalidWhitePointY(_) => 3,
+            Error::IccInvalidWhitePoint(..) => 4,
+            Error::MatrixInversionFailed(_) => 6,
+            error => panic!("no piece gives {error:?}"),
+        })
+    })
+}
+
+/// Refuses by `number` at the first value that is no fixed number.
+fn fit(number: u32, values: impl IntoIterator<Item = f32>) -> Result<(), Refusal> {
+    for value in values {
+        if leaves::fixed(value.to_bits()).is_none() {
+            return Err(Refusal {
+                number,
+                value: Some(value),
+            });
+        }
+    }
+    Ok(())
+}

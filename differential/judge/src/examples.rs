@@ -1,0 +1,317 @@
+//! The examples of the scope ("Sheets to try") that concern the writer, and the numbers of its layout, each tried
+//! against the original.
+
+use crate::answer;
+use crate::encoding::{Curve, Encoding, Primaries, SRGB_CURVE, White};
+use crate::inputs::colours::named_primaries;
+use crate::leaves;
+use crate::list::{MESSAGES, hex};
+
+/// One number of the scope, and what the original gives.
+pub struct Example {
+    pub name: String,
+    pub expected: String,
+    pub found: String,
+}
+
+impl Example {
+    fn new(name: &str, expected: &str, found: String) -> Self {
+        Self {
+            name: name.to_string(),
+            expected: expected.to_string(),
+            found,
+        }
+    }
+
+    pub fn holds(&self) -> bool {
+        self.expected == self.found
+    }
+}
+
+/// All of them, in the order of the scope.
+pub fn all() -> Vec<Example> {
+    let mut all = fixed_numbers();
+    all.extend(texts());
+    all.extend(profiles());
+    all.extend(gammas());
+    all.extend(layout());
+    all.extend(curves());
+    all.extend(vectors());
+    all
+}
+
+const SRGB: Curve = Curve {
+    kind: SRGB_CURVE,
+    gamma: 0,
+};
+
+fn srgb(intent: u8) -> Encoding {
+    Encoding::rgb(White::named(0), Primaries::named(0), SRGB, intent)
+}
+
+fn own_white(wx: f32, wy: f32) -> Encoding {
+    Encoding::rgb(White::own(wx, wy), Primaries::named(0), SRGB, 0)
+}
+
+fn own_gray(wx: f32, wy: f32) -> Encoding {
+    Encoding::gray(White::own(wx, wy), SRGB, 1)
+}
+
+fn fixed_numbers() -> Vec<Example> {
+    #[allow(clippy::excessive_precision)]
+    let limit = 32_767.994_140_625_f32;
+    let two_to_minus_17 = 2f32.powi(-17);
+    let tried = [
+        ("fixed number of 1.0", 1.0, "65536"),
+        ("fixed number of 32767.994140625", limit, "2147483264"),
+        (
+            "fixed number of the next float up",
+            limit.next_up(),
+            "refused",
+        ),
+        ("fixed number of two to the -17", two_to_minus_17, "1"),
+        ("fixed number of minus that", -two_to_minus_17, "-1"),
+        ("fixed number of 2.4", 2.4, "157286"),
+    ];
+    let found = |x: f32| match leaves::fixed(x.to_bits()) {
+        Some(number) => number.to_string(),
+        None => "refused".to_string(),
+    };
+    tried
+        .map(|(name, x, expected)| Example::new(name, expected, found(x)))
+        .into()
+}
+
+fn texts() -> Vec<Example> {
+    let tried = [
+        ("1/256 prints", 1.0 / 256.0, "0.0039062"),
+        ("3/256 prints", 3.0 / 256.0, "0.0117188"),
+        ("-0 prints", -0.0f32, "-0.0000000"),
+    ];
+    tried
+        .map(|(name, x, expected)| Example::new(name, expected, leaves::text(x.to_bits())))
+        .into()
+}
+
+/// The length, or the refusal.
+fn said(answer: Result<Vec<u8>, u32>) -> String {
+    match answer {
+        Ok(profile) => profile.len().to_string(),
+        Err(refusal) => format!("refused {refusal}"),
+    }
+}
+
+fn profiles() -> Vec<Example> {
+    let [rx, ry, _, _, bx, by] = named_primaries()[0];
+    let red_twice = Primaries::own([rx, ry, rx, ry, bx, by]);
+    let singular = Encoding::rgb(White::named(0), red_twice, SRGB, 0);
+    let tried = [
+        ("D65 SRGB SRGB Perceptual", srgb(0), "504"),
+        ("D65 SRGB SRGB Relative", srgb(1), "536"),
+        (
+            "gray D65 Relative SRGB",
+            Encoding::gray(White::named(0), SRGB, 1),
+            "328",
+        ),
+        ("XYB", Encoding::xyb(0), "720"),
+        ("XYB Relative", Encoding::xyb(1), "refused 2"),
+        (
+            "RGB white (0, 1), SRGB, SRGB, Perceptual",
+            own_white(0.0, 1.0),
+            "544",
+        ),
+        ("gray with wy 0", own_gray(0.3, 0.0), "refused 3"),
+        ("RGB with wy 0", own_white(0.3, 0.0), "refused 4"),
+        ("gray (0, 1e-12)", own_gray(0.0, 1e-12), "refused 7"),
+        ("red put for green too, under D65", singular, "refused 6"),
+    ];
+    let mut all: Vec<Example> = tried
+        .map(|(name, encoding, expected)| {
+            Example::new(name, expected, said(answer::profile(&encoding)))
+        })
+        .into();
+    all.insert(
+        0,
+        Example::new(
+            "text of D65 SRGB SRGB Perceptual",
+            "sRGB",
+            answer::description(&srgb(0)),
+        ),
+    );
+    for (room, expected) in [(503, "refused 9"), (504, "504")] {
+        let name = format!("output {room} for sRGB");
+        let found = said(answer::profile_within(&srgb(0), room));
+        all.push(Example::new(&name, expected, found));
+    }
+    all
+}
+
+fn gammas() -> Vec<Example> {
+    let rgb = |g| Encoding::rgb(White::named(0), Primaries::named(0), Curve::gamma(g), 0);
+    let gray = |g| Encoding::gray(White::named(0), Curve::gamma(g), 0);
+    let mut all = Vec::new();
+    for (name, gamma) in [("0", 0.0), ("1/32768", 1.0 / 32768.0)] {
+        for (kind, encoding) in [("RGB", rgb(gamma)), ("gray", gray(gamma))] {
+            let name = format!("{kind} with gamma {name}");
+            let found = said(answer::profile(&encoding));
+            all.push(Example::new(&name, "refused 8", found));
+        }
+    }
+    for (kind, tag, encoding) in [
+        ("RGB", b"rTRC", rgb(f32::INFINITY)),
+        ("gray", b"kTRC", gray(f32::INFINITY)),
+    ] {
+        let name = format!("{kind} with an infinite gamma: number");
+        all.push(Example::new(&name, "0", fixed_of(&encoding, tag, 12)));
+        let name = format!("{kind} with an infinite gamma: end of the text");
+        let text = answer::description(&encoding);
+        all.push(Example::new(
+            &name,
+            "ginf",
+            text[text.len() - 4..].to_string(),
+        ));
+    }
+    all
+}
+
+/// The numbers of "The layout": sizes, the white of RGB and XYB, `cicp`, the id.
+fn layout() -> Vec<Example> {
+    let gamma = Encoding::rgb(White::named(0), Primaries::named(0), Curve::gamma(0.45), 0);
+    let gray = Encoding::gray(White::named(0), SRGB, 1);
+    let xyb = Encoding::xyb(0);
+    let rgb = srgb(0);
+    let white = "63190 65536 54061";
+    let mut all = vec![
+        Example::new(
+            "tags of RGB",
+            "desc cprt wtpt chad cicp rXYZ gXYZ bXYZ rTRC gTRC bTRC",
+            tags(&rgb),
+        ),
+        Example::new(
+            "tags of RGB with gamma",
+            "desc cprt wtpt chad rXYZ gXYZ bXYZ rTRC gTRC bTRC",
+            tags(&gamma),
+        ),
+        Example::new("tags of gray", "desc cprt wtpt kTRC", tags(&gray)),
+        Example::new("tags of XYB", "desc cprt wtpt chad A2B0 B2A0", tags(&xyb)),
+        Example::new("wtpt of RGB", white, fixed_of(&rgb, b"wtpt", 8)),
+        Example::new("wtpt of XYB", white, fixed_of(&xyb, b"wtpt", 8)),
+    ];
+    for (encoding, tag, size) in [
+        (&rgb, b"desc", "36"),
+        (&rgb, b"cprt", "34"),
+        (&rgb, b"wtpt", "20"),
+        (&rgb, b"chad", "44"),
+        (&rgb, b"cicp", "12"),
+        (&rgb, b"rXYZ", "20"),
+        (&rgb, b"rTRC", "32"),
+        (&gamma, b"rTRC", "16"),
+        (&xyb, b"A2B0", "292"),
+        (&xyb, b"B2A0", "80"),
+    ] {
+        let name = format!("size of {}", String::from_utf8_lossy(tag));
+        let found = element(&profile(encoding), tag).len().to_string();
+        all.push(Example::new(&name, size, found));
+    }
+    for (white, primaries, expected) in [(0, 0, "01"), (0, 1, "09"), (0, 2, "0c"), (2, 2, "0b")] {
+        for (curve, transfer) in [(0, "01"), (1, "08"), (2, "0d"), (4, "11")] {
+            let curve = Curve::named(curve);
+            let encoding =
+                Encoding::rgb(White::named(white), Primaries::named(primaries), curve, 0);
+            let name = format!(
+                "cicp of white {white}, primaries {primaries}, curve {}",
+                curve.kind
+            );
+            let found = hex(&element(&profile(&encoding), b"cicp")[8..]);
+            all.push(Example::new(
+                &name,
+                &format!("{expected}{transfer}0001"),
+                found,
+            ));
+        }
+    }
+    let mut file = profile(&srgb(3));
+    let id = hex(&file[84..100]);
+    for field in [44..48, 64..68, 84..100] {
+        file[field].fill(0);
+    }
+    all.push(Example::new(
+        "id of sRGB Absolute",
+        &hex(&leaves::md5(&file)),
+        id,
+    ));
+    all
+}
+
+/// The table of type 3 numbers.
+fn curves() -> Vec<Example> {
+    let tried = [
+        ("numbers of SRGB", 2, "157286 62119 3417 5072 2651"),
+        ("numbers of BT709", 0, "145636 59632 5904 14564 5308"),
+        ("numbers of Linear", 1, "65536 65536 0 65536 0"),
+        ("numbers of DCI", 4, "170394 65536 0 65536 0"),
+    ];
+    tried
+        .map(|(name, curve, expected)| {
+            let encoding = Encoding::gray(White::named(0), Curve::named(curve), 0);
+            Example::new(name, expected, fixed_of(&encoding, b"kTRC", 12))
+        })
+        .into()
+}
+
+/// RFC 1321's test vectors.
+fn vectors() -> Vec<Example> {
+    let expected = [
+        "d41d8cd98f00b204e9800998ecf8427e",
+        "0cc175b9c0f1b6a831c399e269772661",
+        "900150983cd24fb0d6963f7d28e17f72",
+        "f96b697d7cb7938d525a2f31aaf161d0",
+        "c3fcd3d76192e4007dfb496cca67e13b",
+        "d174ab98d277d9f5a5611c2c9f419d9f",
+        "57edf4a22be3c955ac49da2e2107b67a",
+    ];
+    let both = MESSAGES.iter().zip(expected);
+    both.map(|(message, expected)| {
+        let name = format!("MD5 of \"{message}\"");
+        Example::new(&name, expected, hex(&leaves::md5(message.as_bytes())))
+    })
+    .collect()
+}
+
+fn profile(encoding: &Encoding) -> Vec<u8> {
+    answer::profile(encoding).expect("the encodings of the examples are accepted")
+}
+
+/// The entries of the tag table: signature, offset, size.
+fn table(file: &[u8]) -> Vec<([u8; 4], usize, usize)> {
+    let word = |at: usize| -> [u8; 4] { file[at..at + 4].try_into().expect("four bytes") };
+    let number = |at| u32::from_be_bytes(word(at)) as usize;
+    (0..number(128))
+        .map(|entry| 132 + 12 * entry)
+        .map(|at| (word(at), number(at + 4), number(at + 8)))
+        .collect()
+}
+
+fn element<'a>(file: &'a [u8], tag: &[u8; 4]) -> &'a [u8] {
+    let found = table(file).into_iter().find(|entry| entry.0 == *tag);
+    let (_, offset, size) = found.expect("the tags of the examples are present");
+    &file[offset..offset + size]
+}
+
+fn tags(encoding: &Encoding) -> String {
+    let names: Vec<String> = table(&profile(encoding))
+        .iter()
+        .map(|entry| String::from_utf8_lossy(&entry.0).into_owned())
+        .collect();
+    names.join(" ")
+}
+
+/// The fixed numbers of an element, from a place in it on.
+fn fixed_of(encoding: &Encoding, tag: &[u8; 4], from: usize) -> String {
+    let file = profile(encoding);
+    let numbers: Vec<String> = element(&file, tag)[from..]
+        .chunks_exact(4)
+        .map(|four| i32::from_be_bytes(four.try_into().expect("four bytes")).to_string())
+        .collect();
+    numbers.join(" ")
+}

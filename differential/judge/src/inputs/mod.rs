@@ -1,0 +1,30 @@
+//! What the port is tried with: every branch and both sides of every boundary first, then random
+//! inputs. All of it follows from the seed.
+
+pub mod colours;
+pub mod encodings;
+pub mod floats;
+pub mod pieces;
+pub mod random;
+
+use std::collections::HashSet;
+use std::hash::Hash;
+
+pub use random::Random;
+
+/// `first`, without repeats, and then new ones from `next` until there are `count`.
+pub fn filled<T: Copy + Eq + Hash>(
+    first: Vec<T>,
+    count: usize,
+    mut next: impl FnMut() -> T,
+) -> Vec<T> {
+    let mut seen = HashSet::new();
+    let mut all: Vec<T> = first.into_iter().filter(|one| seen.insert(*one)).collect();
+    while all.len() < count {
+        let one = next();
+        if seen.insert(one) {
+            all.push(one);
+        }
+    }
+    all
+}

@@ -1,0 +1,10 @@
+//! The original Rust as the judge: its answers to encodings given as plain numbers, the inputs
+//! that the port is tried with, and the list of both.
+
+pub mod answer;
+pub mod bench;
+pub mod encoding;
+pub mod inputs;
+pub mod leaves;
+pub mod list;
+pub mod examples;
