@@ -4,7 +4,7 @@
 pub mod answer;
 pub mod bench;
 pub mod encoding;
+pub mod examples;
 pub mod inputs;
 pub mod leaves;
 pub mod list;
-pub mod examples;

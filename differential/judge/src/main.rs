@@ -5,7 +5,7 @@ use std::process::ExitCode;
 
 use judge::encoding::{Curve, Encoding, Primaries, White};
 use judge::list::{self, Input, hex};
-use judge::{answer, bench, leaves, examples};
+use judge::{answer, bench, examples, leaves};
 
 const USAGE: &str = "\
 judge profile ENCODING [ROOM]  the profile, or the refusal; ROOM is the output's length
@@ -57,7 +57,7 @@ fn run(command: &str, mut words: Words) -> Result<bool, String> {
             println!("0x{bits:08x} ({:e})", f32::from_bits(bits));
         }
         "text" => println!("{}", leaves::text(words.float()?)),
-        "examples" => return Ok(try_sheets()),
+        "examples" => return Ok(try_examples()),
         "list" => write_list(words.number_or(list::SEED)?)?,
         "check" => return check_list(),
         "bench" => {
@@ -88,16 +88,16 @@ fn show_profile(mut words: Words) -> Result<(), String> {
     Ok(())
 }
 
-fn try_sheets() -> bool {
+fn try_examples() -> bool {
     let all = examples::all();
-    for sheet in &all {
-        let mark = if sheet.holds() { "ok" } else { "DIFFERS" };
+    for example in &all {
+        let mark = if example.holds() { "ok" } else { "DIFFERS" };
         println!(
             "{mark} {}: expected {}, found {}",
-            sheet.name, sheet.expected, sheet.found
+            example.name, example.expected, example.found
         );
     }
-    let good = all.iter().filter(|sheet| sheet.holds()).count();
+    let good = all.iter().filter(|example| example.holds()).count();
     println!("{good} of {}", all.len());
     good == all.len()
 }
