@@ -1,3 +1,4 @@
 pub mod Coordinates
 pub mod Intent
 pub mod Codes
+pub mod IntentLaws

@@ -14,13 +14,13 @@ use Rattle.numbers.proofs.Patterns.{fields-of, at-top, no-nan, zero-by-
 
 pub nan-narrows : (x : Float) → ne x x ≡ true → div binary32 (ofBits binary32 0) (ofBits binary32 0) ≡ narrow x
 unfolding narrow
-nan-narrows x h = zero-by-zero ∙ ap narrow (sym (differs-from-itself x (subst T (sym h) tt)))
+nan-narrows x h = zero-by-zero binary32 ∙ ap narrow (sym (differs-from-itself x (subst T (sym h) tt)))
 
 pub sign-le : (b : ℕ) → b < 2 ^ 64 → b / 2 ^ 63 * 2 ^ 31 ≤ 2 ^ 31
 sign-le b h = omega arith
 
 pub sign-no-nan : (y r : ℕ) → r ≤ 0x7f80_0000 → T (not (nanBits binary32 (y * 2 ^ 31 + r)))
-sign-no-nan y r h = no-nan (y * 2 ^ 31 + r) (omega arith)
+sign-no-nan y r h = no-nan binary32 (y * 2 ^ 31 + r) (omega arith)
 
 sign-is : (b : ℕ) → b < 2 ^ 64 → b / 2 ^ 63 * 2 ^ 31 ≡ cond (leb (2 ^ 63) b) (2 ^ 31) 0
 sign-is b h = go (leb (2 ^ 63) b) (leb→le (2 ^ 63) b) (nleb→lt (2 ^ 63) b)

@@ -2,15 +2,15 @@
 -- Assumes nothing.
 use Prim.Native.Nat.{ℕ, suc, _+_, _*_, _/_, _%_, _^_, _≤_, _<_}
 use mathlib.Core.Path.{_≡_, refl, sym, _∙_, subst}
-use mathlib.Core.Bool.{Bool, not, cond, false, true≢false}
+use mathlib.Core.Bool.{Bool, not, cond, true, false, true≢false}
 use native.Mathlib.Nat.{one-mul, lt-of-le-of-lt, div-le-self, mod-le}
 use native.Mathlib.Omega.{arith}
 use lib.Dec.{T, leb, eqb}
 use lib.Pow.{shl-exact}
 use lib.Ieee.{Float, nan, inf, fin, Format, binary32, binary64, prec, low, hid, ones, top, odd, fits, isNan, ofBits, ofFields, toBits, nanBits, ne, div}
-use lib.Ieee.Bits.{ofBits-toBits, nanBits-above}
+use lib.Ieee.Bits.{ofBits-toBits, nanBits-above, nanBits-is}
 use lib.Ieee.Exact.{HasValue, odd-sign}
-use borrow.Author.Tests.{ne-eqb, le-ltb}
+use borrow.Author.Tests.{ne-eqb, le-ltb, lt-ltb}
 
 -- a value that equals itself is no NaN
 pub equals-itself : (x : Float) → ne x x ≡ false → T (not (isNan x))
@@ -49,13 +49,25 @@ field-value f s x t h =
 -- ---- NaN patterns
 
 -- up to the infinity's pattern, the sign aside, no pattern is a NaN's
-pub no-nan : (b : ℕ) → b % 2 ^ 31 ≤ 0x7f80_0000 → T (not (nanBits binary32 b))
-no-nan b h = subst (λ (t : Bool). T (not t)) (sym (nanBits-above binary32 b ∙ le-ltb 0x7f80_0000 (b % 2 ^ 31) h)) tt
+pub no-nan : (f : Format) (b : ℕ) → b % top f ≤ ones f * hid f → T (not (nanBits f b))
+no-nan f b h = subst (λ (t : Bool). T (not t)) (sym (nanBits-above f b ∙ le-ltb (ones f * hid f) (b % top f) h)) tt
 
 -- 0.0 / 0.0, each by its pattern
-pub zero-by-zero : div binary32 (ofBits binary32 0) (ofBits binary32 0) ≡ nan
+pub zero-by-zero : (f : Format) → div f (ofBits f 0) (ofBits f 0) ≡ nan
 unfolding div ofBits
-zero-by-zero = refl
+zero-by-zero binary32 = refl
+zero-by-zero binary64 = refl
+
+is-nan : (x : Float) → isNan x ≡ true → nan ≡ x
+unfolding isNan
+is-nan nan h = refl
+is-nan (inf s) h = absurd (true≢false (sym h))
+is-nan (fin s m e) h = absurd (true≢false (sym h))
+
+-- above it every pattern is a NaN's, and 0.0 / 0.0 is the NaN
+pub no-number : (f : Format) (b : ℕ) → ones f * hid f < b % top f → div f (ofBits f 0) (ofBits f 0) ≡ ofBits f b
+no-number f b h =
+    zero-by-zero f ∙ is-nan (ofBits f b) (sym (nanBits-is f b) ∙ nanBits-above f b ∙ lt-ltb (ones f * hid f) (b % top f) h)
 
 -- ---- the power of two that `1u64 << d` is
 

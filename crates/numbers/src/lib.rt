@@ -7,6 +7,8 @@ pub mod narrow;
 pub mod words;
 
 pub use bits::f32_from_bits;
+pub use bits::f32_to_bits;
+pub use bits::f64_from_bits;
 pub use bits::i32_from_bits;
 pub use bits::i32_to_bits;
 pub use fixed::S15Fixed16;

@@ -1,0 +1,2 @@
+pub mod Finite
+pub mod Gains

@@ -1,0 +1,5 @@
+pub mod Binary32
+pub mod XybConstants
+pub mod XybNumbers
+pub mod XybNumbersLaws
+pub mod CubeRoot

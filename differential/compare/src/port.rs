@@ -1,0 +1,119 @@
+//! The port's leaves, through their static library.
+
+use judge::encoding::Encoding;
+use judge::leaves::Numbers;
+
+mod entries {
+    unsafe extern "C" {
+        pub fn leaf_fixed(x: u32) -> u64;
+        pub fn leaf_narrow(x: f64) -> u32;
+        pub fn leaf_text(x: u32, out: *mut u8, len: usize) -> usize;
+        pub fn leaf_md5(data: *const u8, data_len: usize, out: *mut u8, len: usize) -> usize;
+        pub fn leaf_adaptation(wx: u32, wy: u32, out: *mut u8, len: usize) -> u32;
+        pub fn leaf_gray_white(wx: u32, wy: u32, out: *mut u8, len: usize) -> u32;
+        #[allow(clippy::too_many_arguments)]
+        pub fn leaf_columns(
+            wx: u32,
+            wy: u32,
+            rx: u32,
+            ry: u32,
+            gx: u32,
+            gy: u32,
+            bx: u32,
+            by: u32,
+            out: *mut u8,
+            len: usize,
+        ) -> u32;
+        #[allow(clippy::too_many_arguments)]
+        pub fn leaf_description(
+            kind: u32,
+            white: u32,
+            wx: u32,
+            wy: u32,
+            primaries: u32,
+            rx: u32,
+            ry: u32,
+            gx: u32,
+            gy: u32,
+            bx: u32,
+            by: u32,
+            curve: u32,
+            gamma: u32,
+            intent: u32,
+            out: *mut u8,
+            len: usize,
+        ) -> usize;
+    }
+}
+
+pub fn fixed(bits: u32) -> Option<i32> {
+    let answer = unsafe { entries::leaf_fixed(bits) };
+    u32::try_from(answer).ok().map(|bits| bits as i32)
+}
+
+pub fn narrow(bits: u64) -> u32 {
+    unsafe { entries::leaf_narrow(f64::from_bits(bits)) }
+}
+
+/// A text that a call writes at the front of a buffer.
+fn written(mut call: impl FnMut(*mut u8, usize) -> usize) -> Vec<u8> {
+    let mut out = [0u8; 512];
+    let len = call(out.as_mut_ptr(), out.len());
+    out[..len].to_vec()
+}
+
+pub fn text(bits: u32) -> Vec<u8> {
+    written(|out, len| unsafe { entries::leaf_text(bits, out, len) })
+}
+
+pub fn md5(data: &[u8]) -> Vec<u8> {
+    written(|out, len| unsafe { entries::leaf_md5(data.as_ptr(), data.len(), out, len) })
+}
+
+/// The numbers that a call writes as big-endian bits.
+fn numbers<const N: usize>(mut call: impl FnMut(*mut u8, usize) -> u32) -> Numbers<N> {
+    let mut out = [0u8; 64];
+    let status = call(out.as_mut_ptr(), out.len());
+    let mut bits = [0; N];
+    for (bits, bytes) in bits.iter_mut().zip(out.chunks_exact(4)) {
+        *bits = u32::from_be_bytes(bytes.try_into().expect("four bytes"));
+    }
+    Numbers { status, bits }
+}
+
+pub fn adaptation(wx: u32, wy: u32) -> Numbers<9> {
+    numbers(|out, len| unsafe { entries::leaf_adaptation(wx, wy, out, len) })
+}
+
+pub fn gray_white(wx: u32, wy: u32) -> Numbers<3> {
+    numbers(|out, len| unsafe { entries::leaf_gray_white(wx, wy, out, len) })
+}
+
+pub fn columns(wx: u32, wy: u32, [rx, ry, gx, gy, bx, by]: [u32; 6]) -> Numbers<9> {
+    numbers(|out, len| unsafe { entries::leaf_columns(wx, wy, rx, ry, gx, gy, bx, by, out, len) })
+}
+
+pub fn description(encoding: &Encoding) -> Vec<u8> {
+    let (white, primaries, curve) = (encoding.white, encoding.primaries, encoding.curve);
+    let [rx, ry, gx, gy, bx, by] = primaries.xy;
+    written(|out, len| unsafe {
+        entries::leaf_description(
+            encoding.kind.into(),
+            white.kind.into(),
+            white.wx,
+            white.wy,
+            primaries.kind.into(),
+            rx,
+            ry,
+            gx,
+            gy,
+            bx,
+            by,
+            curve.kind.into(),
+            curve.gamma,
+            encoding.intent.into(),
+            out,
+            len,
+        )
+    })
+}
