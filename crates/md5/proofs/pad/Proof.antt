@@ -1,0 +1,99 @@
+-- `md5::pad` meets its contract: what the stores leave in the tail is the rest of the message, by the law `tail-is`.
+-- Assumes nothing.
+use native.Mathlib.Omega.{arith}
+use mathlib.Core.Path.{_≡_, sym, ap, ap₂, _∙_}
+use mathlib.Core.List.{List, _++_}
+use Prim.Native.Nat.{ℕ, _+_, _-_, _*_, _/_, _%_, _^_}
+use lib.ListN.{length, take, drop, set, length-take, length-drop, length-set}
+use lib.Seq.{take-all}
+use Rattle.md5.proofs.Tail.{put, tail-is}
+use borrow.Author.Needs.{needs}
+use Rattle.md5.proofs.pad.Statement.{statement}
+use Rattle.md5.proofs.pad.Tie as tie
+
+-- the tail keeps its length
+length-copied : (c : tie.After-copy) → length (c .copy .last .1 .0) ≡ 128
+length-copied c = c .copy .kept .1 .0 ∙ ap length (c .before .before .before .before .before .before .pre)
+
+length-first : (c : tie.After-put-word) → length (c .put-word .last .0) ≡ 128
+length-first c = c .put-word .kept .0 ∙ simp length-set (length-copied (c .before .before .before .before))
+
+sub-whole : tie.Need-sub-whole
+sub-whole c = search needs
+
+tail-end-requires : tie.Need-tail-end-requires
+tail-end-requires c κs = search needs
+
+sub-copy : tie.Need-sub-copy
+sub-copy c = search needs
+
+part-copy-start : tie.Need-part-copy-start
+part-copy-start c = search needs
+
+part-copy-end : tie.Need-part-copy-end
+part-copy-end c = search needs
+
+copy-requires : tie.Need-copy-requires
+copy-requires c κs = simp (length-take, length-drop) (omega (arith, ap length (c .before .before .before .before .before .pre)))
+
+slice-write-tail : tie.Need-slice-write-tail
+slice-write-tail c = omega (arith, length-copied (c .before .before))
+
+sub-put-word : tie.Need-sub-put-word
+sub-put-word c = search needs
+
+cast-put-word : tie.Need-cast-put-word
+cast-put-word c = search needs
+
+put-word-requires : tie.Need-put-word-requires
+put-word-requires c κs = simp length-set (omega (arith, length-copied (c .before .before .before)))
+
+sub-put-word-2 : tie.Need-sub-put-word-2
+sub-put-word-2 c = search needs
+
+cast-put-word-2 : tie.Need-cast-put-word-2
+cast-put-word-2 c = search needs
+
+put-word-requires-2 : tie.Need-put-word-requires-2
+put-word-requires-2 c κs = omega (arith, length-first (c .before .before .before))
+
+same-length : tie.Need-same-length
+same-length c = c .before .before .put-word2 .kept .0 ∙ length-first (c .before .before .before .before .before .before) ∙ sym (ap length (c .before .before .before .before .before .before .before .before .before .before .before .before .before .before .before .before .pre))
+
+returns : tie.Need-returns
+returns c =
+    let s = c .before .before .before .before .before .before .before .before .before .before .before .before .before .before .before .before in
+    let m = s .args .«data» .now in
+    let e = c .before .before .before .before .before .before .before .before .before .before .before .before .before .tail-end .result in
+    let h : e ≡ (length m % 64 + 72) / 64 * 64 = c .before .before .before .before .before .before .before .before .before .before .before .before .before .tail-end .ensures in
+    let d = drop (length m - length m % 64) m in
+    let b = length m * 8 % 2 ^ 64 in
+    let part : take (length m - (length m - length m % 64)) d ≡ d =
+    take-all (length m - (length m - length m % 64)) d (omega (arith, length-drop (length m - length m % 64) m)) in (
+      omega arith,
+      ap (take e)
+          (c .before .before .put-word2 .ensures ∙ ap (λ (l : List ℕ). put l (e - 4) (b / 2 ^ 32))
+          (c .before .before .before .before .before .before .put-word .ensures ∙ ap (λ (l : List ℕ). put (set l (length m % 64) 128) (e - 8) (b % 2 ^ 32))
+          (c .before .before .before .before .before .before .before .before .before .before .copy .ensures ∙ ap₂ (λ (x y : List ℕ). x ++ drop (length x) y) part (s .pre))))
+          ∙ tail-is m e h,
+    )
+
+pub pad-spec : {M : Type 1} → statement M
+pad-spec =
+    tie.close
+    (tie.spec
+    sub-whole
+    tail-end-requires
+    sub-copy
+    part-copy-start
+    part-copy-end
+    copy-requires
+    slice-write-tail
+    sub-put-word
+    cast-put-word
+    put-word-requires
+    sub-put-word-2
+    cast-put-word-2
+    put-word-requires-2
+    same-length
+    returns)

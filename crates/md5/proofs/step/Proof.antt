@@ -1,0 +1,34 @@
+-- `md5::step` meets its contract, by what the sums and the rotation ensure.
+-- Assumes nothing.
+use borrow.Author.Needs.{needs}
+use Rattle.md5.proofs.step.Statement.{statement}
+use Rattle.md5.proofs.step.Tie as tie
+
+wrapping-add-u32-requires : tie.Need-wrapping-add-u32-requires
+wrapping-add-u32-requires c κs = search needs
+
+wrapping-add-u32-requires-2 : tie.Need-wrapping-add-u32-requires-2
+wrapping-add-u32-requires-2 c κs = search needs
+
+wrapping-add-u32-requires-3 : tie.Need-wrapping-add-u32-requires-3
+wrapping-add-u32-requires-3 c κs = search needs
+
+rotate-left-requires : tie.Need-rotate-left-requires
+rotate-left-requires c κs = search needs
+
+wrapping-add-u32-requires-4 : tie.Need-wrapping-add-u32-requires-4
+wrapping-add-u32-requires-4 c κs = search needs
+
+returns : tie.Need-returns
+returns c = cc
+
+pub step-spec : {M : Type 1} → statement M
+step-spec =
+    tie.close
+    (tie.spec
+    wrapping-add-u32-requires
+    wrapping-add-u32-requires-2
+    wrapping-add-u32-requires-3
+    rotate-left-requires
+    wrapping-add-u32-requires-4
+    returns)

@@ -1,0 +1,16 @@
+-- `md5::step_h` meets its contract: it is what `step` ensures, with the value of the round's function.
+-- Assumes nothing.
+use borrow.Author.Needs.{needs}
+use Rattle.md5.specs.Md5.{operate}
+use Rattle.md5.proofs.step_h.Statement.{statement}
+use Rattle.md5.proofs.step_h.Tie as tie
+
+step-requires : tie.Need-step-requires
+step-requires c κs = search needs
+
+returns : tie.Need-returns
+unfolding operate
+returns c = c .step .ensures
+
+pub step-h-spec : {M : Type 1} → statement M
+step-h-spec = tie.close (tie.spec step-requires returns)
