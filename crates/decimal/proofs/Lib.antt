@@ -1,0 +1,4 @@
+pub mod Split
+pub mod Rounded
+pub mod Doubling
+pub mod Value

@@ -1,0 +1,72 @@
+-- The digits, and a float's text, are ASCII.
+-- Assumes nothing.
+use mathlib.Core.Bool.{Bool, true, false, _&&_, cond}
+use mathlib.Core.List.{List, [], _∷_, _++_}
+use Prim.Native.Nat.{ℕ, zero, suc, _+_, _*_, _/_, _%_, _^_, _≤_, _<_}
+use native.Mathlib.Omega.{arith}
+use lib.Dec.{T, leb, ltb, leb→le, ltb→lt, lit≤}
+use lib.Ieee.{Float, nan, inf, fin, up, down, size}
+use lib.Ieee.Fits.{and-l, and-r}
+use lib.Ieee.Nearest.{closest}
+use Rattle.decimal.specs.Decimal.{digit, lastDigits, digitsUpTo, digits}
+use Rattle.decimal.specs.Seven.{minus, withPoint, sevenDecimals}
+use Rattle.decimal.specs.Ascii.{Ascii}
+
+-- ---- lists
+
+pub nil : Ascii []
+nil k = lit≤ tt
+
+pub cons : (a : ℕ) (l : List ℕ) → a ≤ 127 → Ascii l → Ascii (a ∷ l)
+cons a l h hs zero = h
+cons a l h hs (suc k) = hs k
+
+pub append : (a b : List ℕ) → Ascii a → Ascii b → Ascii (a ++ b)
+append [] b h g = g
+append (x ∷ a) b h g = cons x (a ++ b) (h zero) (append a b (λ k. h (suc k)) g)
+
+-- letters that are written out: the test computes
+abbrev pub letters : List ℕ → Bool
+letters [] = true
+letters (a ∷ l) = leb a 127 && letters l
+
+pub written : (l : List ℕ) → T (letters l) → Ascii l
+written [] t = nil
+written (a ∷ l) t = cons a l (leb→le a 127 (and-l (leb a 127) (letters l) t)) (written l (and-r (leb a 127) (letters l) t))
+
+-- ---- digits
+
+one : (d : ℕ) → d < 10 → Ascii (digit d ∷ [])
+one d h = cons (digit d) [] (omega arith) nil
+
+pub ascii-last : (k n : ℕ) → Ascii (lastDigits k n)
+unfolding lastDigits
+ascii-last zero n = nil
+ascii-last (suc k) n = append (lastDigits k (n / 10)) (digit (n % 10) ∷ []) (ascii-last k (n / 10)) (one (n % 10) (omega arith))
+
+ascii-up-to : (k n : ℕ) → Ascii (digitsUpTo k n)
+unfolding digitsUpTo
+ascii-up-to zero n = one (n % 10) (omega arith)
+ascii-up-to (suc k) n = go (append (digitsUpTo k (n / 10)) (digit (n % 10) ∷ []) (ascii-up-to k (n / 10)) (one (n % 10) (omega arith))) (ltb n 10) (ltb→lt n 10)
+  where
+    go : Ascii (digitsUpTo k (n / 10) ++ (digit (n % 10) ∷ [])) → (t : Bool) → (T t → n < 10) → Ascii (cond t (digit n ∷ []) (digitsUpTo k (n / 10) ++ (digit (n % 10) ∷ [])))
+    go h true s = one n (s tt)
+    go h false s = h
+
+pub ascii-digits : (n : ℕ) → Ascii (digits n)
+unfolding digits
+ascii-digits n = ascii-up-to (size n) n
+
+ascii-pointed : (q : ℕ) → Ascii (withPoint q)
+unfolding withPoint
+ascii-pointed q = append (digits (q / 10 ^ 7)) (46 ∷ lastDigits 7 q) (ascii-digits (q / 10 ^ 7)) (cons 46 (lastDigits 7 q) (lit≤ tt) (ascii-last 7 q))
+
+ascii-minus : (s : Bool) → Ascii (minus s)
+ascii-minus true = written (45 ∷ []) tt
+ascii-minus false = nil
+
+pub ascii-seven : (x : Float) → Ascii (sevenDecimals x)
+unfolding sevenDecimals
+ascii-seven nan = written (78 ∷ 97 ∷ 78 ∷ []) tt
+ascii-seven (inf s) = append (minus s) (105 ∷ 110 ∷ 102 ∷ []) (ascii-minus s) (written (105 ∷ 110 ∷ 102 ∷ []) tt)
+ascii-seven (fin s m e) = append (minus s) (withPoint (closest (m * up e * 10 ^ 7) (down e))) (ascii-minus s) (ascii-pointed (closest (m * up e * 10 ^ 7) (down e)))

@@ -1,0 +1,318 @@
+// Floats printed to seven decimals, as Rust's `{:.7}` prints them, straight into a slice that the caller lends.
+// Digits come by multiplications, shifts, comparisons and subtractions: nothing is divided but by powers of two.
+
+use buffer::put_bytes;
+ghost use mathlib.Core.Path.{_≡_};
+ghost use mathlib.Core.Bool.{cond, not};
+ghost use mathlib.Core.List.{_++_, _∷_, []};
+ghost use Prim.Native.Nat.{_+_, _*_, _-_, _/_, _^_, _<_, _≤_};
+ghost use lib.Dec.{eqb, ltb};
+ghost use lib.ListN.{length, replicate};
+ghost use lib.Ieee.Nearest.{closest};
+ghost use Rattle.buffer.specs.Buffer.{put};
+ghost use Rattle.decimal.specs.Decimal.{digits, lastDigits};
+ghost use Rattle.decimal.specs.Puts.{Puts};
+ghost use Rattle.decimal.specs.Seven.{minus, withPoint, sevenDecimals};
+ghost use Rattle.decimal.specs.Parts.{valueOf, Proper, shown, part};
+
+// A whole number below 10^40 by five parts of eight decimal digits, p4 the highest.
+pub struct Parts {
+    pub p4: u64,
+    pub p3: u64,
+    pub p2: u64,
+    pub p1: u64,
+    pub p0: u64,
+}
+
+// A part and what goes over into the next.
+pub struct Carried {
+    pub part: u64,
+    pub carry: u64,
+}
+
+// A float's text: the first `len` bytes.
+pub struct Decimals {
+    pub bytes: [u8; 48],
+    pub len: usize,
+}
+
+// Two digits. n * 103 / 1024 is n / 10 for these n.
+fn put_two(out: &mut [u8], at: usize, n: u64) -> usize
+    requires { ⌜ (n < 100) × (at + 2 ≤ length (now out)) ⌝ }
+    ensures { λ r. ⌜ Puts (now (out .entry)) at (lastDigits 2 n) r (now (out .exit)) ⌝ }
+{
+    let tens = (n * 103) >> 10;
+    out[at] = (48 + tens) as u8;
+    out[at + 1] = (48 + (n - tens * 10)) as u8;
+    at + 2
+}
+
+// n / 100.
+fn hundreds(n: u64) -> u64
+    requires { ⌜ n < 10 ^ 4 ⌝ }
+    ensures { λ r. ⌜ r ≡ n / 100 ⌝ }
+{
+    (n * 5243) >> 19
+}
+
+// n / 10000.
+fn myriads(n: u64) -> u64
+    requires { ⌜ n < 10 ^ 8 ⌝ }
+    ensures { λ r. ⌜ r ≡ n / 10 ^ 4 ⌝ }
+{
+    (n * 109951163) >> 40
+}
+
+// Four digits.
+fn put_four(out: &mut [u8], at: usize, n: u64) -> usize
+    requires { ⌜ (n < 10 ^ 4) × (at + 4 ≤ length (now out)) ⌝ }
+    ensures { λ r. ⌜ Puts (now (out .entry)) at (lastDigits 4 n) r (now (out .exit)) ⌝ }
+{
+    let high = hundreds(n);
+    let i = put_two(&mut *out, at, high);
+    put_two(&mut *out, i, n - high * 100)
+}
+
+// Eight digits.
+fn put_eight(out: &mut [u8], at: usize, n: u64) -> usize
+    requires { ⌜ (n < 10 ^ 8) × (at + 8 ≤ length (now out)) ⌝ }
+    ensures { λ r. ⌜ Puts (now (out .entry)) at (lastDigits 8 n) r (now (out .exit)) ⌝ }
+{
+    let high = myriads(n);
+    let i = put_four(&mut *out, at, high);
+    put_four(&mut *out, i, n - high * 10000)
+}
+
+// n without leading zeros: one digit or two.
+fn put_up_to_two(out: &mut [u8], at: usize, n: u64) -> usize
+    requires { ⌜ (n < 100) × (at + 2 ≤ length (now out)) ⌝ }
+    ensures { λ r. ⌜ Puts (now (out .entry)) at (digits n) r (now (out .exit)) ⌝ }
+{
+    if n < 10 {
+        out[at] = (48 + n) as u8;
+        return at + 1;
+    }
+    put_two(out, at, n)
+}
+
+// n without leading zeros: up to four digits.
+fn put_up_to_four(out: &mut [u8], at: usize, n: u64) -> usize
+    requires { ⌜ (n < 10 ^ 4) × (at + 4 ≤ length (now out)) ⌝ }
+    ensures { λ r. ⌜ Puts (now (out .entry)) at (digits n) r (now (out .exit)) ⌝ }
+{
+    if n < 100 {
+        return put_up_to_two(out, at, n);
+    }
+    let high = hundreds(n);
+    let i = put_up_to_two(&mut *out, at, high);
+    put_two(&mut *out, i, n - high * 100)
+}
+
+// n without leading zeros: up to eight digits.
+fn put_up_to_eight(out: &mut [u8], at: usize, n: u64) -> usize
+    requires { ⌜ (n < 10 ^ 8) × (at + 8 ≤ length (now out)) ⌝ }
+    ensures { λ r. ⌜ Puts (now (out .entry)) at (digits n) r (now (out .exit)) ⌝ }
+{
+    if n < 10000 {
+        return put_up_to_four(out, at, n);
+    }
+    let high = myriads(n);
+    let i = put_up_to_four(&mut *out, at, high);
+    put_four(&mut *out, i, n - high * 10000)
+}
+
+// The point and seven decimals: eight digits, of which the first gives its place to the point.
+fn put_decimals(out: &mut [u8], at: usize, n: u64) -> usize
+    requires { ⌜ (n < 10 ^ 7) × (at + 8 ≤ length (now out)) ⌝ }
+    ensures { λ r. ⌜ Puts (now (out .entry)) at (46 ∷ lastDigits 7 n) r (now (out .exit)) ⌝ }
+{
+    let end = put_eight(&mut *out, at, n);
+    out[at] = 46;
+    end
+}
+
+// A whole part and seven decimals.
+fn put_pointed(out: &mut [u8], at: usize, whole: u64, rest: u64) -> usize
+    requires { ⌜ ((whole < 10 ^ 8) × (rest < 10 ^ 7)) × (at + 16 ≤ length (now out)) ⌝ }
+    ensures { λ r. ⌜ Puts (now (out .entry)) at (withPoint (whole * 10 ^ 7 + rest)) r (now (out .exit)) ⌝ }
+{
+    let i = put_up_to_eight(&mut *out, at, whole);
+    put_decimals(&mut *out, i, rest)
+}
+
+// n / 2^d to the nearest whole number, a tie to the even one.
+fn nearest_shifted(n: u64, d: u64) -> u64
+    requires { ⌜ (n < 2 ^ 48) × (d ≤ 48) ⌝ }
+    ensures { λ r. ⌜ r ≡ closest n (2 ^ d) ⌝ }
+{
+    let unit = 1u64 << d;
+    let whole = n >> d;
+    let twice = (n - whole * unit) * 2;
+    if twice < unit {
+        whole
+    } else if unit < twice {
+        whole + 1
+    } else {
+        whole + whole % 2
+    }
+}
+
+// m / 2^d to seven decimals, for a value with a fraction. From d = 49 on it is less than half of the last decimal.
+fn put_fraction(out: &mut [u8], at: usize, m: u64, d: u64) -> usize
+    requires { ⌜ (m < 2 ^ 24) × (at + 16 ≤ length (now out)) ⌝ }
+    ensures { λ r. ⌜ Puts (now (out .entry)) at (withPoint (closest (m * 10 ^ 7) (2 ^ d))) r (now (out .exit)) ⌝ }
+{
+    if 48 < d {
+        return put_pointed(out, at, 0, 0);
+    }
+    let q = nearest_shifted(m * 10000000, d);
+    let whole = m >> d;
+    let rest = q - whole * 10000000;
+    if rest == 10000000 {
+        return put_pointed(out, at, whole + 1, 0);
+    }
+    put_pointed(out, at, whole, rest)
+}
+
+// 2 * part + carry, by its last eight digits and the one before.
+fn twice(part: u64, carry: u64) -> Carried
+    requires { ⌜ (part < 10 ^ 8) × (carry ≤ 1) ⌝ }
+    ensures { λ r. ⌜ ((r .part < 10 ^ 8) × (r .carry ≤ 1)) × (r .part + 10 ^ 8 * r .carry ≡ 2 * part + carry) ⌝ }
+{
+    let sum = part * 2 + carry;
+    if sum < 100000000 {
+        Carried {
+            part: sum,
+            carry: 0,
+        }
+    } else {
+        Carried {
+            part: sum - 100000000,
+            carry: 1,
+        }
+    }
+}
+
+fn double(b: Parts) -> Parts
+    requires { ⌜ Proper b × (b .p4 < 10 ^ 7) ⌝ }
+    ensures { λ r. ⌜ (valueOf r ≡ 2 * valueOf b) × Proper r ⌝ }
+{
+    let c0 = twice(b.p0, 0);
+    let c1 = twice(b.p1, c0.carry);
+    let c2 = twice(b.p2, c1.carry);
+    let c3 = twice(b.p3, c2.carry);
+    let c4 = twice(b.p4, c3.carry);
+    Parts {
+        p4: c4.part,
+        p3: c3.part,
+        p2: c2.part,
+        p1: c1.part,
+        p0: c0.part,
+    }
+}
+
+// m doubled k times.
+fn shifted(m: u64, k: u64) -> Parts
+    requires { ⌜ (m < 2 ^ 24) × (k ≤ 104) ⌝ }
+    ensures { λ r. ⌜ (valueOf r ≡ m * 2 ^ k) × Proper r ⌝ }
+{
+    let mut b = Parts {
+        p4: 0,
+        p3: 0,
+        p2: 0,
+        p1: 0,
+        p0: m,
+    };
+    let mut i = 0u64;
+    while i < k {
+        b = double(b);
+        i += 1;
+    }
+    b
+}
+
+// A part of a number whose digits begin at `start`. As long as none is written, leading zeros are left out.
+fn put_part(out: &mut [u8], start: usize, at: usize, n: u64) -> usize
+    requires { ⌜ (n < 10 ^ 8) × (at + 8 ≤ length (now out)) ⌝ }
+    ensures { λ r. ⌜ Puts (now (out .entry)) at (part (ltb start at) n) r (now (out .exit)) ⌝ }
+{
+    if start < at {
+        return put_eight(out, at, n);
+    }
+    if n == 0 {
+        return at;
+    }
+    put_up_to_eight(out, at, n)
+}
+
+// The digits of a number above zero.
+fn put_parts(out: &mut [u8], at: usize, b: Parts) -> usize
+    requires { ⌜ (Proper b × (0 < valueOf b)) × ((b .p4 < 10 ^ 7) × (at + 39 ≤ length (now out))) ⌝ }
+    ensures { λ r. ⌜ Puts (now (out .entry)) at (digits (valueOf b)) r (now (out .exit)) ⌝ }
+{
+    let i4 = put_part(&mut *out, at, at, b.p4);
+    let i3 = put_part(&mut *out, at, i4, b.p3);
+    let i2 = put_part(&mut *out, at, i3, b.p2);
+    let i1 = put_part(&mut *out, at, i2, b.p1);
+    put_part(&mut *out, at, i1, b.p0)
+}
+
+// m * 2^k to seven decimals, for a whole number from 2^23 on.
+fn put_whole(out: &mut [u8], at: usize, m: u64, k: u64) -> usize
+    requires { ⌜ ((0 < m) × (m < 2 ^ 24)) × ((k ≤ 104) × (at + 47 ≤ length (now out))) ⌝ }
+    ensures { λ r. ⌜ Puts (now (out .entry)) at (withPoint (m * 2 ^ k * 10 ^ 7)) r (now (out .exit)) ⌝ }
+{
+    let i = put_parts(&mut *out, at, shifted(m, k));
+    put_decimals(&mut *out, i, 0)
+}
+
+// A finite value without its sign, by the fields of its binary32 pattern: (2^23 + digits) * 2^(field - 150), and digits * 2^-149 for the field 0.
+fn put_magnitude(out: &mut [u8], at: usize, field: u64, fraction: u64) -> usize
+    requires { ⌜ ((field < 255) × (fraction < 2 ^ 23)) × (at + 47 ≤ length (now out)) ⌝ }
+    ensures { λ r. ⌜ Puts (now (out .entry)) at (withPoint (closest (cond (eqb field 0) fraction (2 ^ 23 + fraction) * 2 ^ (field - 1) * 10 ^ 7) (2 ^ 149))) r (now (out .exit)) ⌝ }
+{
+    if field == 0 {
+        return put_fraction(out, at, fraction, 149);
+    }
+    if field < 150 {
+        return put_fraction(out, at, 8388608 + fraction, 150 - field);
+    }
+    put_whole(out, at, 8388608 + fraction, field - 150)
+}
+
+// The minus of a negative number.
+fn put_minus(out: &mut [u8], at: usize, sign: u64) -> usize
+    requires { ⌜ at + 1 ≤ length (now out) ⌝ }
+    ensures { λ r. ⌜ Puts (now (out .entry)) at (minus (not (eqb sign 0))) r (now (out .exit)) ⌝ }
+{
+    if sign == 0 {
+        return at;
+    }
+    out[at] = 45;
+    at + 1
+}
+
+// x to seven decimals from `at` on; answers the place after it.
+pub fn put_seven_decimals(out: &mut [u8], at: usize, x: f32) -> usize
+    requires { ⌜ at + 48 ≤ length (now out) ⌝ }
+    ensures { λ r. ⌜ (r ≡ at + length (sevenDecimals x)) × (now (out .exit) ≡ put (now (out .entry)) at (sevenDecimals x)) ⌝ }
+{
+    if x != x {
+        return put_bytes(out, at, b"NaN");
+    }
+    let bits = f32::to_bits(x) as u64;
+    let i = put_minus(&mut *out, at, bits / 2147483648);
+    let field = bits % 2147483648 / 8388608;
+    if field == 255 {
+        return put_bytes(out, i, b"inf");
+    }
+    put_magnitude(out, i, field, bits % 8388608)
+}
+
+pub fn seven_decimals(x: f32) -> Decimals
+    ensures { λ r. ⌜ (r .len ≡ length (sevenDecimals x)) × (r .bytes ≡ sevenDecimals x ++ replicate (48 - length (sevenDecimals x)) 0) ⌝ }
+{
+    let mut bytes = [0u8; 48];
+    let len = put_seven_decimals(&mut bytes, 0, x);
+    Decimals { bytes, len }
+}

@@ -1,0 +1,22 @@
+-- What is put in front of 449 zeros: the law `in-front`.
+-- Assumes nothing.
+use Rattle.decimal.specs.PutsLaws.{in-front}
+use borrow.Author.Needs.{needs}
+use Rattle.text.proofs.get_color_encoding_description.Statement.{statement}
+use Rattle.text.proofs.get_color_encoding_description.Tie as tie
+
+slice-aggregate-put-description : tie.Need-slice-aggregate-put-description
+slice-aggregate-put-description c = search needs
+
+put-description-requires : tie.Need-put-description-requires
+put-description-requires c κs = search needs
+
+returns : tie.Need-returns
+returns c =
+    let call = c .before .put-description in
+    let front = in-front 449 (call .ensures .0) in
+    (front .0, front .1, call .ensures .1)
+
+pub get-color-encoding-description-spec : {M : Type 1} → statement M
+get-color-encoding-description-spec =
+    tie.close (tie.spec slice-aggregate-put-description put-description-requires returns)

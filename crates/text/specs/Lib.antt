@@ -1,0 +1,4 @@
+pub mod Description
+pub mod Held
+pub mod Bounds
+pub mod BoundsLaws
