@@ -22,7 +22,7 @@ cp -R "$here/../crates" "$out/port/crates"
 mkdir -p "$out/port/crates/leaves/src"
 cp "$here/leaves/lib.rt.in" "$out/port/crates/leaves/src/lib.rt"
 cp "$here/../crates.txt" "$out/port/crates.txt"
-echo "leaves: numbers md5 decimal text color_encoding colorimetry" >>"$out/port/crates.txt"
+echo "leaves: buffer numbers md5 decimal text color_encoding colorimetry" >>"$out/port/crates.txt"
 (cd "$out/port" && rt staticlib leaves)
 
 rm -rf "$out/compare"

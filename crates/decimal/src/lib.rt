@@ -4,7 +4,7 @@
 use buffer::put_bytes;
 ghost use mathlib.Core.Path.{_≡_};
 ghost use mathlib.Core.Bool.{cond, not};
-ghost use mathlib.Core.List.{_++_, _∷_, []};
+ghost use mathlib.Core.List.{_++_, _∷_};
 ghost use Prim.Native.Nat.{_+_, _*_, _-_, _/_, _^_, _<_, _≤_};
 ghost use lib.Dec.{eqb, ltb};
 ghost use lib.ListN.{length, replicate};
@@ -13,24 +13,24 @@ ghost use Rattle.buffer.specs.Buffer.{put};
 ghost use Rattle.decimal.specs.Decimal.{digits, lastDigits};
 ghost use Rattle.decimal.specs.Puts.{Puts};
 ghost use Rattle.decimal.specs.Seven.{minus, withPoint, sevenDecimals};
-ghost use Rattle.decimal.specs.Parts.{valueOf, Proper, shown, part};
+ghost use Rattle.decimal.specs.Parts.{valueOf, Proper, part};
 
 // A whole number below 10^40 by five parts of eight decimal digits, p4 the highest.
-pub struct Parts {
-    pub p4: u64,
-    pub p3: u64,
-    pub p2: u64,
-    pub p1: u64,
-    pub p0: u64,
+struct Parts {
+    p4: u64,
+    p3: u64,
+    p2: u64,
+    p1: u64,
+    p0: u64,
 }
 
 // A part and what goes over into the next.
-pub struct Carried {
-    pub part: u64,
-    pub carry: u64,
+struct Carried {
+    part: u64,
+    carry: u64,
 }
 
-// A float's text: the first `len` bytes.
+// A float's text: the first `len` bytes; zeros after it.
 pub struct Decimals {
     pub bytes: [u8; 48],
     pub len: usize,
@@ -47,7 +47,7 @@ fn put_two(out: &mut [u8], at: usize, n: u64) -> usize
     at + 2
 }
 
-// n / 100.
+// n / 100, as n * 5243 / 2^19.
 fn hundreds(n: u64) -> u64
     requires { ⌜ n < 10 ^ 4 ⌝ }
     ensures { λ r. ⌜ r ≡ n / 100 ⌝ }
@@ -55,7 +55,7 @@ fn hundreds(n: u64) -> u64
     (n * 5243) >> 19
 }
 
-// n / 10000.
+// n / 10000, as n * 109951163 / 2^40.
 fn myriads(n: u64) -> u64
     requires { ⌜ n < 10 ^ 8 ⌝ }
     ensures { λ r. ⌜ r ≡ n / 10 ^ 4 ⌝ }
@@ -266,7 +266,7 @@ fn put_whole(out: &mut [u8], at: usize, m: u64, k: u64) -> usize
     put_decimals(&mut *out, i, 0)
 }
 
-// A finite value without its sign, by the fields of its binary32 pattern: (2^23 + digits) * 2^(field - 150), and digits * 2^-149 for the field 0.
+// A finite value without its sign, by the fields of its binary32 pattern: (2^23 + fraction) * 2^(field - 150), or fraction * 2^-149 for the field 0.
 fn put_magnitude(out: &mut [u8], at: usize, field: u64, fraction: u64) -> usize
     requires { ⌜ ((field < 255) × (fraction < 2 ^ 23)) × (at + 47 ≤ length (now out)) ⌝ }
     ensures { λ r. ⌜ Puts (now (out .entry)) at (withPoint (closest (cond (eqb field 0) fraction (2 ^ 23 + fraction) * 2 ^ (field - 1) * 10 ^ 7) (2 ^ 149))) r (now (out .exit)) ⌝ }

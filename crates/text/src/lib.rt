@@ -18,20 +18,7 @@ ghost use Rattle.color_encoding.specs.Intent.{intentNumber, intentName};
 ghost use Rattle.decimal.specs.Puts.{Puts};
 ghost use Rattle.decimal.specs.Seven.{sevenDecimals};
 ghost use Rattle.text.specs.Held.{Held, HeldWhite, HeldPrimaries, HeldTransfer, InRange, WhiteInRange, Short};
-ghost use Rattle.text.specs.Description.{
-  pair,
-  whiteName,
-  primariesName,
-  transferName,
-  whiteNumber,
-  primariesNumber,
-  transferNumber,
-  rgbText,
-  grayText,
-  xybText,
-  rgbDescription,
-  description,
-};
+ghost use Rattle.text.specs.Description.{pair, whiteName, primariesName, transferName, whiteNumber, primariesNumber, transferNumber, rgbText, grayText, xybText, rgbDescription, description};
 
 // A description: the first `len` bytes; zeros after it.
 pub struct Text {
