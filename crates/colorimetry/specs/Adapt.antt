@@ -83,10 +83,10 @@ abbrev pub adaptedOr : List (List Float) → Option (List (List Float)) → List
 adaptedOr out (some m) = m
 adaptedOr out none = out
 
--- the number of an answer on the refusal list; 0: it is no refusal
-abbrev pub adaptationRefusal : Adaptation → ℕ
-adaptationRefusal Adapted = 0
-adaptationRefusal InvalidWhitePoint = 4
+-- the number of an answer on the refusal list of 01
+abbrev pub adaptationRefusal : Adaptation → Option ℕ
+adaptationRefusal Adapted = none
+adaptationRefusal InvalidWhitePoint = some 4
 
 -- ---- the matrix of the element `chad`
 

@@ -73,8 +73,8 @@ convertedOr out (converted m) = m
 convertedOr out invalid-white-point = out
 convertedOr out inversion-failed = out
 
--- the number of an answer on the refusal list; 0: it is no refusal
-abbrev pub conversionRefusal : Conversion → ℕ
-conversionRefusal C.Converted = 0
-conversionRefusal C.InvalidWhitePoint = 4
-conversionRefusal C.MatrixInversionFailed = 6
+-- the number of an answer on the refusal list of 01
+abbrev pub conversionRefusal : Conversion → Option ℕ
+conversionRefusal C.Converted = none
+conversionRefusal C.InvalidWhitePoint = some 4
+conversionRefusal C.MatrixInversionFailed = some 6

@@ -2,6 +2,7 @@
 -- `adapt_to_xyz_d50` and `primaries_to_xyz` begin. For gray: `cie_xyz_from_white_cie_xy`, wholly in f32. Assumes nothing.
 use Prim.Native.Nat.{ℕ}
 use mathlib.Core.Bool.{Bool, true, false, _&&_, cond}
+use mathlib.Core.Option.{Option, none, some}
 use mathlib.Core.List.{List, [], _∷_}
 use lib.Ieee.{Float, nan, inf, fin, binary32, ofBits, sub, mul, div, lt, le}
 use Rattle.linalg.specs.Binary64.{_⊖_, _⊘_, one, abs}
@@ -48,7 +49,7 @@ cieXyzFromWhiteCieXy w =
     cond (lt (abs (w .wy)) epsilon32) InvalidWhitePointY
     (Xyz (mul binary32 (w .wx) factor) one32 (mul binary32 (sub binary32 (sub binary32 one32 (w .wx)) (w .wy)) factor))
 
--- the number of an answer on the refusal list; 0: it is no refusal
-abbrev pub whiteXyzRefusal : WhiteXyz → ℕ
-whiteXyzRefusal (Xyz x y z) = 0
-whiteXyzRefusal InvalidWhitePointY = 3
+-- the number of an answer on the refusal list of 01
+abbrev pub whiteXyzRefusal : WhiteXyz → Option ℕ
+whiteXyzRefusal (Xyz x y z) = none
+whiteXyzRefusal InvalidWhitePointY = some 3

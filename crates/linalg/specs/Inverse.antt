@@ -1,6 +1,7 @@
 -- The inverse of a matrix by its cofactors, as util/linalg.rs computes it. Assumes nothing.
 use Prim.Native.Nat.{ℕ, _+_, _%_}
 use mathlib.Core.Bool.{Bool, cond}
+use mathlib.Core.Option.{Option, none, some}
 use mathlib.Core.List.{List}
 use lib.Dec.{eqb}
 use lib.Ieee.{Float, binary64, ofBits, neg, lt}
@@ -58,7 +59,7 @@ inversion m = cond (singular m) Singular Inverted
 abbrev pub inverseOr : List (List Float) → List (List Float) → List (List Float)
 inverseOr out m = cond (singular m) out (inverse m)
 
--- the number of an answer on the refusal list; 0: it is no refusal
-abbrev pub inversionRefusal : Inversion → ℕ
-inversionRefusal Inverted = 0
-inversionRefusal Singular = 6
+-- the number of an answer on the refusal list of 01
+abbrev pub inversionRefusal : Inversion → Option ℕ
+inversionRefusal Inverted = none
+inversionRefusal Singular = some 6
