@@ -1,7 +1,9 @@
 -- The two stores are the law `two-stores`; that n * 103 / 1024 is n / 10 is arithmetic below 100.
 -- Assumes nothing.
-use Prim.Native.Nat.{ℕ, _-_, _*_, _/_, _%_, _<_}
-use mathlib.Core.Path.{_≡_, refl}
+use Prim.Native.Nat.{ℕ, _*_, _/_, _%_, _<_}
+use mathlib.Core.Path.{_≡_, refl, ap₂, _∙_}
+use mathlib.Core.List.{[], _∷_}
+use Rattle.buffer.specs.Buffer.{put}
 use native.Mathlib.Omega.{arith}
 use lib.ListN.{length-set}
 use borrow.Author.Needs.{needs}
@@ -12,9 +14,6 @@ use Rattle.decimal.proofs.put_two.Tie as tie
 
 tens : (n : ℕ) → n < 100 → n * 103 / 1024 ≡ n / 10 % 10
 tens n h = omega arith
-
-ones : (n : ℕ) → n < 100 → n - n / 10 % 10 * 10 ≡ n % 10
-ones n h = omega arith
 
 mul-tens : tie.Need-mul-tens
 mul-tens c = search needs
@@ -55,10 +54,9 @@ same-length c = search needs
 returns : tie.Need-returns
 unfolding lastDigits
 returns c =
-    let n = c .args .n in
     record {
       place = refl;
-      bytes = rw (tens n (c .pre .0), ones n (c .pre .0)) (two-stores _ (c .args .at) _ _ (c .pre .1));
+      bytes = two-stores _ (c .args .at) _ _ (c .pre .1) ∙ ap₂ (λ (x y : ℕ). put (c .args .out .now) (c .args .at) (x ∷ y ∷ [])) (omega (arith, tens (c .args .n) (c .pre .0))) (omega (arith, tens (c .args .n) (c .pre .0)));
     }
 
 pub put-two-spec : {M : Type 1} → statement M

@@ -1,0 +1,94 @@
+-- The layout from header, tag table, elements, and then the intent and the id. Assumes nothing.
+use Prim.Native.Nat.{ℕ, _+_, _≤_}
+use mathlib.Core.Path.{_≡_, refl, ap, ap₂, sym, _∙_}
+use mathlib.Core.List.{List, [], _∷_, _++_, append-nil}
+use native.Mathlib.Nat.{zero-add}
+use native.Mathlib.Omega.{arith}
+use lib.ListN.{length, take}
+use Rattle.numbers.specs.Words.{be32}
+use Rattle.numbers.specs.WordsLaws.{length-be32}
+use Rattle.buffer.specs.Buffer.{put, Written}
+use Rattle.buffer.specs.BufferLaws.{length-put, front, again}
+use Rattle.md5.specs.Md5.{md5}
+use Rattle.md5.specs.Md5Laws.{length-md5}
+use Rattle.profile.specs.Elements.{Slot, table, start, body, bodySize, file, fileLength}
+use Rattle.profile.specs.ElementsLaws.{length-table, length-file}
+use Rattle.profile.specs.Plan.{Plan, kind}
+use Rattle.profile.specs.PlanLaws.{Nines, slots-shape, at-most}
+use Rattle.profile.specs.PutsLaws.{next, there, done, puts}
+use Rattle.profile.specs.TagTypes.{join, zeros}
+use Rattle.profile.specs.Layout.{header, elements, slots, withId, blanked, layout}
+use Rattle.profile.specs.LayoutLaws.{length-header, plan-fours, length-layout, blanked-withId, layout-last}
+use Rattle.profile.specs.Shape.{shape, slotsOf}
+
+-- the header while the intent and the id are zero
+abbrev blank : Plan → ℕ → List ℕ
+blank p n = header (kind p) (record { size = n; intent = 0; id = zeros 16 })
+
+-- what a caller that has room for the layout knows of its parts
+pub record Fits (p : Plan) (n : ℕ) : Type 0 where
+  pub header : 132 ≤ start (slotsOf (shape p))
+  pub whole : start (slotsOf (shape p)) + bodySize (slotsOf (shape p)) ≤ n
+  pub parts : fileLength (slotsOf (shape p)) ≡ start (slotsOf (shape p)) + bodySize (slotsOf (shape p))
+  pub small : fileLength (slotsOf (shape p)) ≤ 1240
+
+pub fits : (p : Plan) (n : ℕ) → length (layout p) ≤ n → Nines (p .content) → shape p .letters ≤ 372 → Fits p n
+unfolding fileLength start slotsOf
+fits p n room h g =
+    record {
+      header = omega arith;
+      whole = rw (length-layout p h) at room;
+      parts = refl;
+      small = at-most (shape p .kind) (shape p .letters) (shape p .gamma) (shape p .cicp) g;
+    }
+
+-- the file with its three fields blank, from its parts
+blank-parts : (p : Plan) → Nines (p .content) → (n : ℕ) → n ≡ fileLength (slotsOf (shape p))
+    → join (blank p n ∷ table (slotsOf (shape p)) ∷ body (elements p) ∷ []) ≡ blanked (withId (zeros 16) p)
+unfolding join file
+blank-parts p h n e =
+    ap₂ (λ (n : ℕ) (ss : List Slot). blank p n ++ (table ss ++ (body (elements p) ++ []))) (e ∙ ap fileLength (sym (slots-shape p h))) (sym (slots-shape p h))
+    ∙ ap (λ (l : List ℕ). blank p (fileLength (slots p)) ++ (table (slots p) ++ l)) (append-nil (body (elements p)))
+    ∙ sym (blanked-withId p (zeros 16) refl)
+
+length-blanked : (p : Plan) → Nines (p .content) → length (blanked (withId (zeros 16) p)) ≡ fileLength (slotsOf (shape p))
+length-blanked p h =
+    ap length (blanked-withId p (zeros 16) refl)
+    ∙ length-file _ (elements p) (length-header (kind p) _ refl) (plan-fours p h)
+    ∙ ap fileLength (slots-shape p h)
+
+table-length : (p : Plan) → Nines (p .content) → 128 + length (table (slotsOf (shape p))) ≡ start (slotsOf (shape p))
+unfolding start
+table-length p h = omega (arith, length-table (slotsOf (shape p)) (rw (slots-shape p h) at (plan-fours p h)))
+
+-- what is put at the front is the front
+put-front : (l q : List ℕ) → length q ≤ length l → Written l q (put l 0 q)
+unfolding put
+put-front l q h = record { room = h; is = rw (zero-add (length q)) }
+
+as-put : {l q out : List ℕ} → Written l q out → out ≡ put l 0 q
+unfolding put
+as-put {l} {q} w = w .is ∙ rw (zero-add (length q))
+
+at-least-header : (ss : List Slot) → 128 ≤ fileLength ss
+unfolding fileLength start
+at-least-header ss = omega arith
+
+-- the header, the table and the elements, as calls leave them, and then the intent and the id
+pub finished : (p : Plan) → Nines (p .content) → (l : List ℕ) {a b d out : List ℕ} {n s : ℕ} → length (layout p) ≤ length l
+    → n ≡ fileLength (slotsOf (shape p)) → s ≡ start (slotsOf (shape p)) → a ≡ put l 0 (blank p n) → b ≡ put a 128 (table (slotsOf (shape p)))
+    → d ≡ put b s (body (elements p)) → out ≡ put (put d 64 (be32 (p .intent))) 84 (md5 (take n d)) → out ≡ put l 0 (layout p)
+finished p h l {a} {b} {d} {out} {n} {s} room hn hs ha hb hd ho =
+    let f : List ℕ = blanked (withId (zeros 16) p) in
+    let laid : d ≡ put l 0 (join (blank p n ∷ table (slotsOf (shape p)) ∷ body (elements p) ∷ [])) =
+    puts (there (length-header (kind p) _ refl) ha (next refl (hs ∙ sym (table-length p h), hb) (there refl hd done))) (omega arith) .1
+    in
+    let whole : length f ≡ n = length-blanked p h ∙ sym hn in
+    let fits : length f ≤ length l = omega (arith, length-layout p h) in
+    let w : Written l f d = rw (laid ∙ ap (put l 0) (blank-parts p h n hn)) (put-front l f fits) in
+    let hash : take n d ≡ f = ap (λ (k : ℕ). take k d) (sym whole) ∙ front w in
+    let long : 128 ≤ length f = rw (length-blanked p h) (at-least-header (slotsOf (shape p))) in
+    ho ∙ ap (λ (x : List ℕ). put (put d 64 (be32 (p .intent))) 84 (md5 x)) hash
+    ∙ as-put (again 84 (md5 f) (again 64 (be32 (p .intent)) w (omega (arith, length-be32 (p .intent))))
+    (omega (arith, length-md5 f, length-be32 (p .intent), length-put f 64 (be32 (p .intent)) (omega (arith, length-be32 (p .intent))))))
+    ∙ ap (put l 0) (layout-last p)

@@ -1,0 +1,4 @@
+pub mod HeaderParts
+pub mod TableParts
+pub mod KindParts
+pub mod Finish

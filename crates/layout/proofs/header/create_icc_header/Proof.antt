@@ -1,0 +1,45 @@
+-- Three runs of fields, one after another, are the header of the kind: the laws `puts` and `header-parts`.
+-- Assumes nothing.
+use mathlib.Core.Path.{ap, _∙_}
+use native.Mathlib.Omega.{arith}
+use borrow.Author.Needs.{needs}
+use Rattle.buffer.specs.Buffer.{put}
+use Rattle.profile.specs.PutsLaws.{there, done, puts}
+use Rattle.layout.proofs.HeaderParts.{length-first-fields, length-date-and-platform, length-last-fields, header-parts}
+use Rattle.layout.proofs.header.create_icc_header.Statement.{statement}
+use Rattle.layout.proofs.header.create_icc_header.Tie as tie
+
+put-first-fields-requires : tie.Need-put-first-fields-requires
+put-first-fields-requires c κs = search needs
+
+put-date-and-platform-requires : tie.Need-put-date-and-platform-requires
+put-date-and-platform-requires c κs = search needs
+
+put-last-fields-requires : tie.Need-put-last-fields-requires
+put-last-fields-requires c κs = search needs
+
+same-length : tie.Need-same-length
+same-length c = search needs
+
+returns : tie.Need-returns
+returns c k classed spaced =
+    let s3 = c .before .before in
+    let s2 = s3 .before .before .before .before in
+    let s1 = s2 .before .before .before .before in
+    let start = s1 .before .before .before in
+    puts
+    (there (length-first-fields _ _ _ (omega arith) (omega arith)) (s1 .put-first-fields .ensures)
+    (there length-date-and-platform (s2 .put-date-and-platform .ensures)
+    (there length-last-fields (s3 .put-last-fields .ensures)
+    done))) (omega arith) .1
+    ∙ ap (put (start .args .out .now) 0) (header-parts k _ _ _ classed spaced)
+
+pub create-icc-header-spec : {M : Type 1} → statement M
+create-icc-header-spec =
+    tie.close
+    (tie.spec
+    put-first-fields-requires
+    put-date-and-platform-requires
+    put-last-fields-requires
+    same-length
+    returns)

@@ -1,0 +1,56 @@
+-- The id is MD5 of the front as it was at entry, since it is taken first.
+-- Assumes nothing.
+use Prim.Native.Nat.{ℕ}
+use mathlib.Core.Path.{refl, ap₂, sym, _∙_}
+use mathlib.Core.List.{List}
+use native.Mathlib.Omega.{arith}
+use lib.Seq.{length-take-le}
+use borrow.Author.Needs.{needs}
+use Rattle.buffer.specs.Buffer.{put}
+use Rattle.layout.proofs.put_intent_and_id.Statement.{statement}
+use Rattle.layout.proofs.put_intent_and_id.Tie as tie
+
+slice-reshare-prefix-compute-md5 : tie.Need-slice-reshare-prefix-compute-md5
+slice-reshare-prefix-compute-md5 c = search needs
+
+slice-aggregate-compute-md5 : tie.Need-slice-aggregate-compute-md5
+slice-aggregate-compute-md5 c = sym (length-take-le _ _ (omega arith))
+
+compute-md5-requires : tie.Need-compute-md5-requires
+compute-md5-requires c κs = search needs
+
+put-u32-be-requires : tie.Need-put-u32-be-requires
+put-u32-be-requires c κs = search needs
+
+slice-aggregate-put-bytes : tie.Need-slice-aggregate-put-bytes
+slice-aggregate-put-bytes c = search needs
+
+put-bytes-requires : tie.Need-put-bytes-requires
+put-bytes-requires c κs = search needs
+
+same-length : tie.Need-same-length
+same-length c = search needs
+
+returns : tie.Need-returns
+returns c =
+    let id = c .before .before in
+    let intent = id .before .before .before .before .before in
+    let hash = intent .before .before in
+    let start = hash .before .before .before in (
+      refl,
+      id .put-bytes .ensures .1
+          ∙ ap₂ (λ (l q : List ℕ). put l 84 q) (intent .put-u32-be .ensures .1) (hash .compute-md5 .ensures),
+    )
+
+pub put-intent-and-id-spec : {M : Type 1} → statement M
+put-intent-and-id-spec =
+    tie.close
+    (tie.spec
+    slice-reshare-prefix-compute-md5
+    slice-aggregate-compute-md5
+    compute-md5-requires
+    put-u32-be-requires
+    slice-aggregate-put-bytes
+    put-bytes-requires
+    same-length
+    returns)

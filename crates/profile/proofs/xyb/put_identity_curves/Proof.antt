@@ -1,0 +1,57 @@
+-- Three curves, one after another: the law `puts`.
+-- Assumes nothing.
+use native.Mathlib.Omega.{arith}
+use borrow.Author.Needs.{needs}
+use Rattle.profile.specs.Xyb.{identityCurves}
+use Rattle.profile.specs.TagTypesLaws.{length-para}
+use Rattle.profile.specs.PutsLaws.{next, done, puts}
+use Rattle.profile.proofs.xyb.put_identity_curves.Statement.{statement}
+use Rattle.profile.proofs.xyb.put_identity_curves.Tie as tie
+
+slice-aggregate-create-icc-curv-para-tag : tie.Need-slice-aggregate-create-icc-curv-para-tag
+slice-aggregate-create-icc-curv-para-tag c = search needs
+
+create-icc-curv-para-tag-requires : tie.Need-create-icc-curv-para-tag-requires
+create-icc-curv-para-tag-requires c κs = search needs
+
+slice-aggregate-create-icc-curv-para-tag-2 : tie.Need-slice-aggregate-create-icc-curv-para-tag-2
+slice-aggregate-create-icc-curv-para-tag-2 c = search needs
+
+create-icc-curv-para-tag-requires-2 : tie.Need-create-icc-curv-para-tag-requires-2
+create-icc-curv-para-tag-requires-2 c κs = search needs
+
+slice-aggregate-create-icc-curv-para-tag-3 : tie.Need-slice-aggregate-create-icc-curv-para-tag-3
+slice-aggregate-create-icc-curv-para-tag-3 c = search needs
+
+create-icc-curv-para-tag-requires-3 : tie.Need-create-icc-curv-para-tag-requires-3
+create-icc-curv-para-tag-requires-3 c κs = search needs
+
+same-length : tie.Need-same-length
+same-length c = search needs
+
+returns : tie.Need-returns
+unfolding identityCurves
+returns c =
+    let s3 = c .before .before in
+    let s2 = s3 .before .before .before .before .before in
+    let s1 = s2 .before .before .before .before .before in (
+      omega arith,
+      puts
+          (next (length-para 0 _) (s1 .create-icc-curv-para-tag .ensures)
+          (next (length-para 0 _) (s2 .create-icc-curv-para-tag2 .ensures)
+          (next (length-para 0 _) (s3 .create-icc-curv-para-tag3 .ensures)
+          done))) (omega arith) .1,
+    )
+
+pub put-identity-curves-spec : {M : Type 1} → statement M
+put-identity-curves-spec =
+    tie.close
+    (tie.spec
+    slice-aggregate-create-icc-curv-para-tag
+    create-icc-curv-para-tag-requires
+    slice-aggregate-create-icc-curv-para-tag-2
+    create-icc-curv-para-tag-requires-2
+    slice-aggregate-create-icc-curv-para-tag-3
+    create-icc-curv-para-tag-requires-3
+    same-length
+    returns)

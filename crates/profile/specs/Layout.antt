@@ -1,0 +1,106 @@
+-- The bytes that a plan lays out to (01, "Words of demand 3"): the header of its kind, the tag table, the elements with their padding,
+-- and the id of all this. Assumes nothing.
+use Prim.Native.Nat.{ℕ}
+use mathlib.Core.List.{List, [], _∷_, _++_, map}
+use lib.ListN.{take, drop}
+use lib.IntN.{ℤ, pos}
+use Rattle.numbers.specs.Words.{be16, be32}
+use Rattle.buffer.specs.Ascii.{ascii}
+use Rattle.md5.specs.Md5.{md5}
+use Rattle.xyb_constants.specs.XybNumbers as XybNumbers
+use Rattle.profile.specs.Signatures as Sig
+use Rattle.profile.specs.Elements.{Element, Slot, slot, file, fileLength}
+use Rattle.profile.specs.Plan.{Plan, Content, gray, rgb, xyb, Kind, isGray, isRgb, isXyb, kind}
+use Rattle.profile.specs.TagTypes.{join, zeros, mluc, xyz, sf32, curve, cicp, s15Fixed16s}
+use Rattle.profile.specs.Xyb.{a2b0, b2a0}
+use Rattle.profile.specs.declared.Curve.{Curve}
+use Rattle.profile.specs.declared.Cicp.{Cicp}
+use Rattle.profile.specs.declared.Cicp.the-variants.{Absent, Primaries}
+
+-- ---- the elements of each kind, in tag order
+
+abbrev pub under : List (List ℕ) → List ℕ → Element
+under s b = record { signatures = s; bytes = b }
+
+abbrev pub tag : List ℕ → List ℕ → Element
+tag s b = under (s ∷ []) b
+
+-- the PCS white point as the Rust's f32 constants round: 0.964203, 1, 0.824905
+abbrev pub D50 : List ℤ
+D50 = pos 63190 ∷ pos 65536 ∷ pos 54061 ∷ []
+
+-- the text of the XYB plan
+abbrev pub xybText : List ℕ
+xybText = ascii "XYB_Per"
+
+abbrev pub described : List ℕ → List Element → List Element
+described t es = tag Sig.desc (mluc t) ∷ tag Sig.cprt (mluc (ascii "CC0")) ∷ es
+
+abbrev pub cicpElement : Curve → Cicp → List Element
+cicpElement c Absent = []
+cicpElement c (Primaries v) = tag Sig.cicp (cicp v c) ∷ []
+
+-- the columns and the one curve of an RGB plan
+abbrev pub colorElements : List ℤ → Curve → List Element
+colorElements k c =
+    tag Sig.rXYZ (xyz (take 3 k)) ∷ tag Sig.gXYZ (xyz (take 3 (drop 3 k))) ∷ tag Sig.bXYZ (xyz (drop 6 k))
+    ∷ under (Sig.rTRC ∷ Sig.gTRC ∷ Sig.bTRC ∷ []) (curve c) ∷ []
+
+abbrev pub elementsOf : Content → List Element
+elementsOf (gray t c x z) = described t (tag Sig.wtpt (xyz (x ∷ pos 65536 ∷ z ∷ [])) ∷ tag Sig.kTRC (curve c) ∷ [])
+elementsOf (rgb t c m k v) = described t (tag Sig.wtpt (xyz D50) ∷ tag Sig.chad (sf32 m) ∷ (cicpElement c v ++ colorElements k c))
+elementsOf xyb =
+    described xybText
+    (tag Sig.wtpt (xyz D50) ∷ tag Sig.chad (sf32 XybNumbers.chad) ∷ tag Sig.A2B0 a2b0 ∷ tag Sig.B2A0 b2a0 ∷ [])
+
+unfoldable pub elements : Plan → List Element
+elements p = elementsOf (p .content)
+
+abbrev pub slots : Plan → List Slot
+slots p = map slot (elements p)
+
+-- ---- the header (7.2)
+
+-- what of a header its kind does not fix
+pub record Varying : Type 0 where
+  pub size : ℕ
+  pub intent : ℕ
+  pub id : List ℕ
+
+abbrev pub class : Kind → List ℕ
+class isGray = Sig.mntr
+class isRgb = Sig.mntr
+class isXyb = Sig.scnr
+
+abbrev pub space : Kind → List ℕ
+space isGray = Sig.GRAY
+space isRgb = Sig.RGB
+space isXyb = Sig.RGB
+
+-- bytes 4 to 43: preferred CMM, version 4.4, class, data color space, PCS, 2019-12-01 00:00:00, file signature, platform
+abbrev pub front : Kind → List ℕ
+front k =
+    join (Sig.jxl ∷ (4 ∷ 64 ∷ 0 ∷ 0 ∷ []) ∷ class k ∷ space k ∷ Sig.XYZ ∷ be16 2019 ∷ be16 12 ∷ be16 1 ∷ zeros 6 ∷ Sig.acsp ∷ Sig.APPL ∷ [])
+
+-- flags; manufacturer, model and attributes; intent; PCS illuminant; creator; id; reserved
+unfoldable pub header : Kind → Varying → List ℕ
+header k v =
+    join (be32 (v .size) ∷ front k ∷ zeros 4 ∷ zeros 16 ∷ be32 (v .intent) ∷ s15Fixed16s D50 ∷ Sig.jxl ∷ v .id ∷ zeros 28 ∷ [])
+
+-- ---- the file
+
+-- the plan's file under any id
+unfoldable pub withId : List ℕ → Plan → List ℕ
+withId id p = file (header (kind p) (record { size = fileLength (slots p); intent = p .intent; id = id })) (elements p)
+
+-- a file with bytes 44 to 47, 64 to 67 and 84 to 99 zero
+unfoldable pub blanked : List ℕ → List ℕ
+blanked f = join (take 44 f ∷ zeros 4 ∷ take 16 (drop 48 f) ∷ zeros 4 ∷ take 16 (drop 68 f) ∷ zeros 16 ∷ drop 100 f ∷ [])
+
+-- the id of a file (7.2.18)
+unfoldable pub profileId : List ℕ → List ℕ
+profileId f = md5 (blanked f)
+
+-- the plan's file: its id is that of the file
+unfoldable pub layout : Plan → List ℕ
+layout p = withId (profileId (withId (zeros 16) p)) p

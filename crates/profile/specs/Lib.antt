@@ -1,0 +1,12 @@
+pub mod Signatures
+pub mod Elements
+pub mod Plan
+pub mod TagTypes
+pub mod Xyb
+pub mod Layout
+pub mod Shape
+pub mod ElementsLaws
+pub mod TagTypesLaws
+pub mod PlanLaws
+pub mod LayoutLaws
+pub mod PutsLaws
