@@ -1,0 +1,60 @@
+-- What laying a plan out answers and leaves, from what `text` and `layout` ensure. Assumes nothing.
+use Prim.Native.Nat.{ℕ, _≤_, _<_}
+use mathlib.Core.Path.{_≡_, sym, ap, _∙_}
+use mathlib.Core.List.{List, _++_}
+use native.Mathlib.Omega.{arith}
+use lib.ListN.{length, take, replicate, length-append}
+use lib.Seq.{take-at}
+use lib.IntN.{ℤ}
+use borrow.Author.Tests.{le-leb, lt-leb}
+use Rattle.buffer.specs.Buffer.{put}
+use Rattle.profile.specs.Elements.{fileLength}
+use Rattle.profile.specs.Plan.{Plan, grayPlan, rgbPlan}
+use Rattle.profile.specs.Shape.{grayShape, rgbShape, slotsOf}
+use Rattle.profile.specs.Layout.{layout}
+use Rattle.profile.specs.LayoutLaws.{length-layout}
+use Rattle.profile.specs.declared.Curve.{Curve}
+use Rattle.profile.specs.declared.Cicp.{Cicp}
+use Rattle.writer.specs.Checked.{Checked, is, refused}
+use Rattle.writer.specs.Writer.{answer, output}
+use Rattle.writer.specs.declared.Profile.{Profile}
+use Rattle.writer.specs.declared.Profile.the-variants.{Written, Refused}
+
+-- the letters of a description that stands in front of zeros
+pub letters : (d : List ℕ) {bytes : List ℕ} (z : ℕ) {n : ℕ} → n ≡ length d → bytes ≡ d ++ replicate z 0 → take n bytes ≡ d
+letters d {bytes} z {n} e h = ap (take n) h ∙ take-at d _ n (sym e)
+
+pub letters-within : (d : List ℕ) {bytes : List ℕ} (z : ℕ) {n : ℕ} → n ≡ length d → bytes ≡ d ++ replicate z 0 → n ≤ length bytes
+letters-within d {bytes} z {n} e h = rw (h, e, length-append) (omega arith)
+
+-- ---- the length that `layout` answers is that of the layout
+
+pub gray-size : (i : ℕ) (t : List ℕ) (c : Curve) (x z : ℤ) (n r : ℕ) → n ≡ length t → r ≡ fileLength (slotsOf (grayShape n c))
+    → r ≡ length (layout (grayPlan i t c x z))
+gray-size i t c x z n r e h = h ∙ ap (λ (k : ℕ). fileLength (slotsOf (grayShape k c))) e ∙ sym (length-layout (grayPlan i t c x z) tt)
+
+pub rgb-size : (i : ℕ) (t : List ℕ) (c : Curve) (m k : List ℤ) (v : Cicp) (n r : ℕ) → length m ≡ 9 → length k ≡ 9 → n ≡ length t
+    → r ≡ fileLength (slotsOf (rgbShape n c v)) → r ≡ length (layout (rgbPlan i t c m k v))
+rgb-size i t c m k v n r nine-m nine-k e h =
+    h ∙ ap (λ (j : ℕ). fileLength (slotsOf (rgbShape j c v))) e ∙ sym (length-layout (rgbPlan i t c m k v) (nine-m, nine-k))
+
+-- ---- the two answers; n is the length of the layout
+
+pub too-short : (p : Plan) (out : List ℕ) (n : ℕ) → n ≡ length (layout p) → length out < n
+    → (Refused 9 ≡ answer (is p) (length out)) × (out ≡ output (is p) out)
+too-short p out n e h = let less : length out < length (layout p) = rw e at h in (simp (lt-leb _ _ less), simp (lt-leb _ _ less))
+
+pub laid-out : (p : Plan) (out left : List ℕ) (n r : ℕ) → n ≡ length (layout p) → n ≤ length out
+    → (r ≡ length (layout p)) × (left ≡ put out 0 (layout p)) → (Written r ≡ answer (is p) (length out)) × (left ≡ output (is p) out)
+laid-out p out left n r e h w =
+    let room : length (layout p) ≤ length out = rw e at h in
+    (ap Written (w .0) ∙ simp (le-leb _ _ room), w .1 ∙ simp (le-leb _ _ room))
+
+-- ---- the answer of a plan that is known
+
+pub refusal : {p : Checked Plan} {k : ℕ} (out : List ℕ) → p ≡ refused k → (Refused k ≡ answer p (length out)) × (out ≡ output p out)
+refusal {p} {k} out e = (sym (ap (λ (q : Checked Plan). answer q (length out)) e), sym (ap (λ (q : Checked Plan). output q out) e))
+
+pub plan-known : {p : Checked Plan} {q : Plan} (out left : List ℕ) (r : Profile) → p ≡ is q
+    → (r ≡ answer (is q) (length out)) × (left ≡ output (is q) out) → (r ≡ answer p (length out)) × (left ≡ output p out)
+plan-known {p} {q} out left r e w = (w .0 ∙ sym (ap (λ (c : Checked Plan). answer c (length out)) e), w .1 ∙ sym (ap (λ (c : Checked Plan). output c out) e))
