@@ -6,11 +6,14 @@ use native.Mathlib.Omega.{arith}
 use lib.ListN.{length, take, replicate, length-append}
 use lib.Seq.{take-at}
 use lib.IntN.{ℤ}
+use mir.Syntax.{w32}
+use mir.Val.{Fits}
 use borrow.Author.Tests.{le-leb, lt-leb}
 use Rattle.buffer.specs.Buffer.{put}
 use Rattle.profile.specs.Elements.{fileLength}
 use Rattle.profile.specs.Plan.{Plan, grayPlan, rgbPlan}
-use Rattle.profile.specs.Shape.{grayShape, rgbShape, slotsOf}
+use Rattle.profile.specs.Shape.{grayShape, rgbShape, slotsOf, shape}
+use Rattle.profile.specs.PlanLaws.{Nines, at-most}
 use Rattle.profile.specs.Layout.{layout}
 use Rattle.profile.specs.LayoutLaws.{length-layout}
 use Rattle.profile.specs.declared.Curve.{Curve}
@@ -37,6 +40,15 @@ pub rgb-size : (i : ℕ) (t : List ℕ) (c : Curve) (m k : List ℤ) (v : Cicp) 
     → r ≡ fileLength (slotsOf (rgbShape n c v)) → r ≡ length (layout (rgbPlan i t c m k v))
 rgb-size i t c m k v n r nine-m nine-k e h =
     h ∙ ap (λ (j : ℕ). fileLength (slotsOf (rgbShape j c v))) e ∙ sym (length-layout (rgbPlan i t c m k v) (nine-m, nine-k))
+
+-- ---- and it fits 32 bits
+
+pub short-layout : (p : Plan) → Nines (p .content) → shape p .letters ≤ 372 → {r : ℕ} → r ≡ length (layout p) → Fits w32 r
+unfolding slotsOf
+short-layout p h s {r} e =
+    record {
+      fits = omega (arith, e, length-layout p h, at-most (shape p .kind) (shape p .letters) (shape p .gamma) (shape p .cicp) s);
+    }
 
 -- ---- the two answers; n is the length of the layout
 

@@ -32,7 +32,7 @@ ghost use Rattle.writer.specs.Validate.{isS15Fixed16, allS15Fixed16, val
 
 // What the writer answers: the length of the profile that it wrote, or the first number of the refusal list that applies.
 pub enum Profile {
-    Written(usize),
+    Written(u32),
     Refused(u32),
 }
 
@@ -349,7 +349,7 @@ fn put_gray_plan(
     if out.len() < layout::gray_length(letters, curve) {
         return Profile::Refused(9);
     }
-    Profile::Written(layout::put_gray(out, intent, &bytes[..letters], curve, x, z))
+    Profile::Written(layout::put_gray(out, intent, &bytes[..letters], curve, x, z) as u32)
 }
 
 // The same of an RGB plan.
@@ -371,7 +371,7 @@ fn put_rgb_plan(
     if out.len() < layout::rgb_length(letters, curve, cicp) {
         return Profile::Refused(9);
     }
-    Profile::Written(layout::put_rgb(out, intent, &bytes[..letters], curve, chad, columns, cicp))
+    Profile::Written(layout::put_rgb(out, intent, &bytes[..letters], curve, chad, columns, cicp) as u32)
 }
 
 fn write_gray(
@@ -456,7 +456,7 @@ fn write_xyb(intent: RenderingIntent, out: &mut [u8]) -> Profile
             if out.len() < 720 {
                 return Profile::Refused(9);
             }
-            Profile::Written(layout::put_xyb(out))
+            Profile::Written(layout::put_xyb(out) as u32)
         }
         RenderingIntent::Relative => Profile::Refused(2),
         RenderingIntent::Saturation => Profile::Refused(2),

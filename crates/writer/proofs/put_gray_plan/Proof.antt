@@ -10,7 +10,7 @@ use borrow.Author.Needs.{needs}
 use Rattle.text.specs.Description.{description}
 use Rattle.profile.specs.Plan.{Plan, grayPlan}
 use Rattle.profile.specs.Layout.{layout}
-use Rattle.writer.proofs.Laying.{letters, letters-within, gray-size, too-short, laid-out}
+use Rattle.writer.proofs.Laying.{letters, letters-within, gray-size, short-layout, too-short, laid-out}
 use Rattle.writer.proofs.put_gray_plan.Statement.{statement}
 use Rattle.writer.proofs.put_gray_plan.Tie as tie
 
@@ -68,6 +68,11 @@ put-gray-requires c κs =
     let sized = c .before .before .before in
     (rw (text-is (described sized)) (short (described sized)), rw (passed-on sized, ← size sized) (c .before .before .if1 .left))
 
+cast-t17 : tie.Need-cast-t17
+cast-t17 c =
+    let sized = c .before .before .before .before .before .before in
+    short-layout (planned sized) tt (short (described sized)) ((rw (passed-on sized) at (c .before .before .put-gray .ensures)) .0)
+
 same-length : tie.Need-same-length
 same-length c = search needs
 
@@ -86,5 +91,6 @@ put-gray-plan-spec =
     array-share-prefix-bytes
     slice-aggregate-put-gray
     put-gray-requires
+    cast-t17
     same-length
     returns-2)

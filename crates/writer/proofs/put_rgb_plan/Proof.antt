@@ -7,7 +7,7 @@ use borrow.Author.Needs.{needs}
 use Rattle.text.specs.Description.{description}
 use Rattle.profile.specs.Plan.{Plan, rgbPlan}
 use Rattle.profile.specs.Layout.{layout}
-use Rattle.writer.proofs.Laying.{letters, letters-within, rgb-size, too-short, laid-out}
+use Rattle.writer.proofs.Laying.{letters, letters-within, rgb-size, short-layout, too-short, laid-out}
 use Rattle.writer.proofs.put_rgb_plan.Statement.{statement}
 use Rattle.writer.proofs.put_rgb_plan.Tie as tie
 
@@ -44,8 +44,11 @@ module _ (c : tie.After-rgb-length) where
   passed-on : rgbPlan (start .args .intent) (written described) (start .args .curve) (start .args .chad) (start .args .columns) (start .args .cicp) ≡ planned
   passed-on = simp (text-is described)
 
+  nines : (length (start .args .chad) ≡ 9) × (length (start .args .columns) ≡ 9)
+  nines = (search needs, search needs)
+
   size : c .rgb-length .result ≡ length (layout planned)
-  size = rgb-size _ (text described) _ _ _ _ _ _ (search needs) (search needs) (described .get-color-encoding-description .ensures .0) (c .rgb-length .ensures)
+  size = rgb-size _ (text described) _ _ _ _ _ _ (nines .0) (nines .1) (described .get-color-encoding-description .ensures .0) (c .rgb-length .ensures)
 
 returns : tie.Need-returns
 returns c = too-short (planned (c .before)) _ _ (size (c .before)) (c .if1 .taken)
@@ -65,6 +68,11 @@ put-rgb-requires c κs =
     let sized = c .before .before .before in
     (rw (text-is (described sized)) (short (described sized)), rw (passed-on sized, ← size sized) (c .before .before .if1 .left))
 
+cast-t18 : tie.Need-cast-t18
+cast-t18 c =
+    let sized = c .before .before .before .before .before .before in
+    short-layout (planned sized) (nines sized) (short (described sized)) ((rw (passed-on sized) at (c .before .before .put-rgb .ensures)) .0)
+
 same-length : tie.Need-same-length
 same-length c = search needs
 
@@ -83,5 +91,6 @@ put-rgb-plan-spec =
     array-share-prefix-bytes
     slice-aggregate-put-rgb
     put-rgb-requires
+    cast-t18
     same-length
     returns-2)

@@ -1,5 +1,6 @@
 -- `write_xyb` meets its contract: the layout of the XYB plan has 720 bytes, by computation.
 use mathlib.Core.Path.{_≡_, sym, ap}
+use lib.Dec.{lit≤}
 use lib.ListN.{length}
 use borrow.Author.Needs.{needs}
 use Rattle.color_encoding.specs.declared.JxlColorEncoding.the-variants.{XYB}
@@ -9,7 +10,7 @@ use Rattle.profile.specs.LayoutLaws.{length-layout}
 use Rattle.profile.specs.Elements.{fileLength, start, bodySize, tagCount, padding}
 use Rattle.profile.specs.Shape.{slotsOf}
 use Rattle.writer.specs.PlanOf.{planOf}
-use Rattle.writer.proofs.Laying.{too-short, laid-out, refusal, plan-known}
+use Rattle.writer.proofs.Laying.{short-layout, too-short, laid-out, refusal, plan-known}
 use Rattle.writer.proofs.write_xyb.Statement.{statement}
 use Rattle.writer.proofs.write_xyb.Tie as tie
 
@@ -26,6 +27,9 @@ returns c = plan-known _ _ _ (ap (λ i. planOf (XYB i)) (c .before .enum-told .g
 
 put-xyb-requires : tie.Need-put-xyb-requires
 put-xyb-requires c κs = rw (← size) (c .before .if1 .left)
+
+cast-t8 : tie.Need-cast-t8
+cast-t8 c = short-layout (xybPlan 0) tt (lit≤ tt) (c .before .before .put-xyb .ensures .0)
 
 enum-told-2 : tie.Need-enum-told-2
 enum-told-2 c = search needs
@@ -65,6 +69,7 @@ write-xyb-spec =
     enum-told
     returns
     put-xyb-requires
+    cast-t8
     enum-told-2
     enum-told-3
     enum-told-4
