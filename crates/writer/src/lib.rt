@@ -371,7 +371,9 @@ fn put_rgb_plan(
     if out.len() < layout::rgb_length(letters, curve, cicp) {
         return Profile::Refused(9);
     }
-    Profile::Written(layout::put_rgb(out, intent, &bytes[..letters], curve, chad, columns, cicp) as u32)
+    Profile::Written(
+        layout::put_rgb(out, intent, &bytes[..letters], curve, chad, columns, cicp) as u32,
+    )
 }
 
 fn write_gray(

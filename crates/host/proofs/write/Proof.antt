@@ -1,0 +1,45 @@
+-- The number of what the writer answers. Assumes nothing.
+use mathlib.Core.Path.{sym, ap, _∙_}
+use Rattle.host.specs.Host.{number, answered, left}
+use borrow.Author.Needs.{needs}
+use Rattle.host.proofs.write.Statement.{statement}
+use Rattle.host.proofs.write.Tie as tie
+
+maybe-create-profile-requires : tie.Need-maybe-create-profile-requires
+maybe-create-profile-requires c κs = search needs
+
+enum-known-n : tie.Need-enum-known-n
+enum-known-n c = search needs
+
+enum-known-number : tie.Need-enum-known-number
+enum-known-number c = search needs
+
+same-length : tie.Need-same-length
+same-length c = search needs
+
+returns : tie.Need-returns
+unfolding answered left
+returns c =
+    let call = c .before .before .before .before .before in
+    (ap number (sym (c .before .n .given .1) ∙ call .maybe-create-profile .ensures .0), call .maybe-create-profile .ensures .1)
+
+same-length-2 : tie.Need-same-length-2
+same-length-2 c = search needs
+
+returns-2 : tie.Need-returns-2
+unfolding answered left
+returns-2 c =
+    let call = c .before .before .before .before .before in
+    (ap number (sym (c .before .number .given .1) ∙ call .maybe-create-profile .ensures .0), call .maybe-create-profile .ensures .1)
+
+pub write-spec : {M : Type 1} → statement M
+write-spec =
+    tie.close
+    (tie.spec
+    maybe-create-profile-requires
+    enum-known-n
+    enum-known-number
+    same-length
+    returns
+    same-length-2
+    returns-2)

@@ -1,0 +1,77 @@
+/* Merqyduk: ICC profiles of color encodings, for C and C++.
+ *
+ * Link target/staticlib/libhost.a (rt staticlib host).
+ *
+ * A call that writes answers the profile's length (284 to 1200), which stands at the front of the output; the rest of
+ * the output is unchanged. Or it answers a refusal number (below 100), and all of the output is unchanged:
+ *    1  the curve is PQ or HLG
+ *    2  XYB with an intent other than Perceptual
+ *    3  gray with |wy| below 1e-12
+ *    4  RGB with a white outside 0 <= wx <= 1, 0 < wy <= 1, or one that cannot be adapted
+ *    5  a number of the chromatic adaptation does not fit
+ *    6  the primaries' matrix is singular
+ *    7  a number of a column, or of a gray white, does not fit
+ *    8  the reciprocal of gamma does not fit
+ *    9  the output is shorter than the profile
+ *   43  a kind, curve or intent has no meaning (tested first)
+ *
+ * out may be null where out_len is 0. */
+#ifndef MERQYDUK_H
+#define MERQYDUK_H
+
+#include <stddef.h>
+#include <stdint.h>
+
+#ifdef __cplusplus
+extern "C" {
+#endif
+
+/* White points. wx and wy are read for MERQYDUK_WHITE_OWN only. */
+enum {
+    MERQYDUK_WHITE_D65 = 0,
+    MERQYDUK_WHITE_E = 1,
+    MERQYDUK_WHITE_DCI = 2,
+    MERQYDUK_WHITE_OWN = 3
+};
+
+/* Primaries. The six coordinates are read for MERQYDUK_PRIMARIES_OWN only. */
+enum {
+    MERQYDUK_PRIMARIES_SRGB = 0,
+    MERQYDUK_PRIMARIES_BT2100 = 1,
+    MERQYDUK_PRIMARIES_P3 = 2,
+    MERQYDUK_PRIMARIES_OWN = 3
+};
+
+/* Curves. gamma is read for MERQYDUK_CURVE_GAMMA only. */
+enum {
+    MERQYDUK_CURVE_BT709 = 0,
+    MERQYDUK_CURVE_LINEAR = 1,
+    MERQYDUK_CURVE_SRGB = 2,
+    MERQYDUK_CURVE_PQ = 3,
+    MERQYDUK_CURVE_DCI = 4,
+    MERQYDUK_CURVE_HLG = 5,
+    MERQYDUK_CURVE_GAMMA = 6
+};
+
+/* Rendering intents. */
+enum {
+    MERQYDUK_INTENT_PERCEPTUAL = 0,
+    MERQYDUK_INTENT_RELATIVE = 1,
+    MERQYDUK_INTENT_SATURATION = 2,
+    MERQYDUK_INTENT_ABSOLUTE = 3
+};
+
+uint32_t merqyduk_write_gray(uint32_t white, float wx, float wy, uint32_t curve, float gamma, uint32_t intent,
+                             uint8_t *out, size_t out_len);
+
+uint32_t merqyduk_write_rgb(uint32_t white, float wx, float wy, uint32_t primaries, float rx, float ry, float gx,
+                            float gy, float bx, float by, uint32_t curve, float gamma, uint32_t intent, uint8_t *out,
+                            size_t out_len);
+
+uint32_t merqyduk_write_xyb(uint32_t intent, uint8_t *out, size_t out_len);
+
+#ifdef __cplusplus
+}
+#endif
+
+#endif
