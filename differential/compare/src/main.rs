@@ -1,16 +1,20 @@
-//! Tries the port's leaves against the original on many inputs.
+//! Tries the port against the original on many inputs.
 //!
-//!   compare COUNT [SEED]
+//!   compare leaves|writer COUNT [SEED]
+//!   compare bench
 //!
-//! Each leaf is tried on COUNT inputs: the boundary cases first, then random ones that follow from
-//! the seed. Prints a line for each leaf and fails if one answer differs.
+//! Each leaf, or the writer, is tried on COUNT inputs: the boundary cases first, then random ones
+//! that follow from the seed. Prints a line for each and fails if one answer differs. `bench` times
+//! the writer beside the original.
 
 mod port;
 
 use std::fmt::Debug;
+use std::hint::black_box;
 
+use judge::encoding::Encoding;
 use judge::inputs::{Random, encodings, floats, pieces};
-use judge::{answer, leaves};
+use judge::{answer, bench, leaves};
 
 /// Inputs are made in parts, so that they fit into memory.
 const PART: usize = 1_000_000;
@@ -56,18 +60,7 @@ fn messages(random: &mut Random, count: usize) -> Vec<Vec<u8>> {
         .collect()
 }
 
-fn main() {
-    let mut words = std::env::args().skip(1);
-    let count = words
-        .next()
-        .and_then(|word| word.parse().ok())
-        .unwrap_or(PART);
-    let seed = words.next().and_then(|word| word.parse().ok()).unwrap_or(1);
-    let mut run = Run {
-        count,
-        seed,
-        differences: 0,
-    };
+fn leaves(run: &mut Run) {
     run.leaf(
         "fixed number",
         floats::fixed,
@@ -116,6 +109,98 @@ fn main() {
         |e| answer::description(e).into_bytes(),
         port::description,
     );
+}
+
+/// What the output holds before a call.
+const FILL: u8 = 0xa5;
+
+/// What a call of the writer on an output of `room` bytes answers and leaves in it.
+#[derive(Debug, PartialEq)]
+struct Written {
+    answer: u32,
+    output: Vec<u8>,
+}
+
+fn original(encoding: &Encoding, room: usize) -> Written {
+    let mut output = vec![FILL; room];
+    let answer = match answer::profile_within(encoding, room) {
+        Ok(profile) => {
+            output[..profile.len()].copy_from_slice(&profile);
+            profile.len() as u32
+        }
+        Err(number) => number,
+    };
+    Written { answer, output }
+}
+
+fn port(encoding: &Encoding, room: usize) -> Written {
+    let mut output = vec![FILL; room];
+    let answer = port::write(encoding, &mut output);
+    Written { answer, output }
+}
+
+/// Encodings, each with an output of 1,300 bytes or, one in eight, of any length up to 800.
+fn calls(random: &mut Random, count: usize) -> Vec<(Encoding, usize)> {
+    let encodings = encodings::encodings(random, count);
+    let mut room = || match random.below(8) {
+        0 => random.below(801) as usize,
+        _ => 1300,
+    };
+    encodings.into_iter().map(|one| (one, room())).collect()
+}
+
+fn writer(run: &mut Run) {
+    run.leaf(
+        "writer",
+        calls,
+        |(encoding, room)| original(encoding, *room),
+        |(encoding, room)| port(encoding, *room),
+    );
+}
+
+/// Nanoseconds of both for each of four encodings, the best of several turns taken in turn.
+fn bench() {
+    for (name, encoding) in bench::encodings() {
+        let theirs = encoding.original().expect("these have a meaning");
+        let mut output = [0u8; 1300];
+        let (mut port, mut original) = (f64::INFINITY, f64::INFINITY);
+        for _ in 0..5 {
+            original = original.min(bench::nanoseconds(|| {
+                black_box(
+                    black_box(&theirs)
+                        .maybe_create_profile()
+                        .expect("these are accepted"),
+                );
+            }));
+            port = port.min(bench::nanoseconds(|| {
+                black_box(port::write(black_box(&encoding), &mut output));
+            }));
+        }
+        println!(
+            "{name}: {port:.0} ns, the original {original:.0} ns, ratio {:.2}",
+            port / original
+        );
+    }
+}
+
+fn main() {
+    let mut words = std::env::args().skip(1);
+    let what = words.next().unwrap_or_default();
+    let mut number = || words.next().and_then(|word| word.parse::<u64>().ok());
+    let mut run = Run {
+        count: number().unwrap_or(PART as u64) as usize,
+        seed: number().unwrap_or(1),
+        differences: 0,
+    };
+    match what.as_str() {
+        "leaves" => leaves(&mut run),
+        "writer" => writer(&mut run),
+        "bench" => bench(),
+        _ => {
+            eprintln!("compare leaves|writer COUNT [SEED], or compare bench");
+            std::process::exit(2);
+        }
+    }
     if run.differences > 0 {
         std::process::exit(1);
     }

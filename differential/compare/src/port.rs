@@ -1,10 +1,39 @@
-//! The port's leaves, through their static library.
+//! The port, through its static libraries: the leaves, and the writer by its C entries.
 
-use judge::encoding::Encoding;
+use judge::encoding::{Encoding, GRAY, RGB};
 use judge::leaves::Numbers;
 
 mod entries {
     unsafe extern "C" {
+        pub fn merqyduk_write_xyb(intent: u32, out: *mut u8, len: usize) -> u32;
+        pub fn merqyduk_write_gray(
+            white: u32,
+            wx: f32,
+            wy: f32,
+            curve: u32,
+            gamma: f32,
+            intent: u32,
+            out: *mut u8,
+            len: usize,
+        ) -> u32;
+        #[allow(clippy::too_many_arguments)]
+        pub fn merqyduk_write_rgb(
+            white: u32,
+            wx: f32,
+            wy: f32,
+            primaries: u32,
+            rx: f32,
+            ry: f32,
+            gx: f32,
+            gy: f32,
+            bx: f32,
+            by: f32,
+            curve: u32,
+            gamma: f32,
+            intent: u32,
+            out: *mut u8,
+            len: usize,
+        ) -> u32;
         pub fn leaf_fixed(x: u32) -> u64;
         pub fn leaf_narrow(x: f64) -> u32;
         pub fn leaf_text(x: u32, out: *mut u8, len: usize) -> usize;
@@ -116,4 +145,24 @@ pub fn description(encoding: &Encoding) -> Vec<u8> {
             len,
         )
     })
+}
+
+/// The writer: a length, or a refusal number below 100.
+pub fn write(encoding: &Encoding, out: &mut [u8]) -> u32 {
+    let (white, primaries, curve) = (encoding.white, encoding.primaries, encoding.curve);
+    let (wx, wy) = (f32::from_bits(white.wx), f32::from_bits(white.wy));
+    let [rx, ry, gx, gy, bx, by] = primaries.xy.map(f32::from_bits);
+    let gamma = f32::from_bits(curve.gamma);
+    let intent = encoding.intent.into();
+    let (at, len) = (out.as_mut_ptr(), out.len());
+    let (white, primaries, curve) = (white.kind.into(), primaries.kind.into(), curve.kind.into());
+    unsafe {
+        match encoding.kind {
+            GRAY => entries::merqyduk_write_gray(white, wx, wy, curve, gamma, intent, at, len),
+            RGB => entries::merqyduk_write_rgb(
+                white, wx, wy, primaries, rx, ry, gx, gy, bx, by, curve, gamma, intent, at, len,
+            ),
+            _ => entries::merqyduk_write_xyb(intent, at, len),
+        }
+    }
 }
