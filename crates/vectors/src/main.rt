@@ -1,5 +1,7 @@
-// Replays the fixed list on standard input and counts, for each type of record, how many were tried and how many were matched.
+// Replays the fixed list on standard input and counts, for each type of record, how many were tried and how many were matched. Then tries
+// the examples of 01 that are run.
 // The list holds the Rust's own answers and RFC 1321's vectors; differential/README.md says how it was made and what a record holds.
+mod examples;
 mod hex;
 mod records;
 
@@ -19,6 +21,12 @@ fn print_tally(letter: u8, tried: u64, matched: u64) {
     io::write_all(STDOUT_FILENO, b" of ");
     io::print_decimal(STDOUT_FILENO, tried);
     io::write_all(STDOUT_FILENO, b"\n");
+}
+
+fn print_examples() {
+    io::write_all(STDOUT_FILENO, b"examples ");
+    io::print_decimal(STDOUT_FILENO, examples::holding());
+    io::write_all(STDOUT_FILENO, b" of 9\n");
 }
 
 fn main() {
@@ -44,4 +52,5 @@ fn main() {
         print_tally(types[k], tried[k], matched[k]);
         k += 1;
     }
+    print_examples();
 }

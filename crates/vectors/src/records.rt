@@ -16,6 +16,7 @@ use colorimetry::Conversion;
 use colorimetry::WhiteXyz;
 use libc::STDIN_FILENO;
 use numbers::S15Fixed16;
+use writer::Profile;
 ghost use Prim.Native.Nat.{_≤_};
 
 // The number of a record's type, from its letter: its place in the list, or 8.
@@ -236,7 +237,7 @@ fn digit(line: &[u8], at: usize) -> u32 {
     (hex::number(line, at, 1) % 16) as u32
 }
 
-// e: an encoding; here its description.
+// e: an encoding: its profile or refusal, and its description.
 fn encoding(line: &[u8]) -> bool {
     let kind = digit(line, 0);
     let c = primaries(line, 19);
@@ -268,7 +269,7 @@ fn encoding(line: &[u8]) -> bool {
         return false;
     };
     if kind == 1 {
-        return described(
+        return answered(
             line,
             JxlColorEncoding::GrayscaleColorSpace {
                 white_point: w,
@@ -278,7 +279,7 @@ fn encoding(line: &[u8]) -> bool {
         );
     }
     if kind == 2 {
-        return described(
+        return answered(
             line,
             JxlColorEncoding::RgbColorSpace {
                 white_point: w,
@@ -288,12 +289,27 @@ fn encoding(line: &[u8]) -> bool {
             },
         );
     }
-    described(
+    answered(
         line,
         JxlColorEncoding::XYB {
             rendering_intent: i,
         },
     )
+}
+
+fn answered(line: &[u8], e: JxlColorEncoding) -> bool {
+    described(line, e) && written(line, e)
+}
+
+// The length of the profile and its MD5, or the refusal.
+fn written(line: &[u8], e: JxlColorEncoding) -> bool {
+    let mut out = [0u8; 1300];
+    match writer::maybe_create_profile(e, &mut out) {
+        Profile::Written(n) => {
+            n as u64 == hex::number(line, 77, 4) && digest_spelled(line, 81, &out, n as usize)
+        }
+        Profile::Refused(number) => number as u64 == hex::number(line, 77, 4),
+    }
 }
 
 fn described(line: &[u8], e: JxlColorEncoding) -> bool {

@@ -111,6 +111,9 @@ loop2-less c = search needs
 loop2-again : tie.Need-loop2-again Inv-loop μ-loop Inv-loop2 μ-loop2
 loop2-again c = search needs
 
+print-examples-requires : tie.Need-print-examples-requires Inv-loop μ-loop Inv-loop2 μ-loop2
+print-examples-requires c κs = search needs
+
 returns : tie.Need-returns Inv-loop μ-loop Inv-loop2 μ-loop2
 returns c = search needs
 
@@ -152,4 +155,5 @@ main-spec =
     add-k
     loop2-less
     loop2-again
+    print-examples-requires
     returns)
