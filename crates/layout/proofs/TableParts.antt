@@ -8,7 +8,7 @@ use lib.ListN.{length, length-append}
 use Rattle.numbers.specs.Words.{be32}
 use Rattle.numbers.specs.WordsLaws.{length-be32}
 use Rattle.buffer.specs.All.{none, more}
-use Rattle.profile.specs.Elements.{Slot, entry, entryBytes, entries, entriesBytes, padding, paddedSize, bodySize, tagCount, start, table, fileLength}
+use Rattle.profile.specs.Elements.{Slot, entry, entryBytes, entries, entriesBytes, padding, paddedSize, bodySize, tagCount, start, table}
 use Rattle.profile.specs.ElementsLaws.{lines-append, length-entriesBytes}
 use Rattle.profile.specs.Plan.{isGray, isRgb, isXyb}
 use Rattle.profile.specs.declared.Curve.{Curve}
@@ -72,10 +72,6 @@ gray-body n false = omega arith
 pub xyb-start : start (Shape.slotsOf Shape.xybShape) ≡ 204
 unfolding Shape.slotsOf start tagCount
 xyb-start = refl
-
-pub xyb-file : 720 ≡ fileLength (Shape.slotsOf Shape.xybShape)
-unfolding Shape.slotsOf fileLength start tagCount bodySize padding
-xyb-file = refl
 
 pub xyb-table : (o : ℕ) → o ≡ 204 + bodySize (first-slots 7)
     → join ((be32 6 ++ lines 204 (first-slots 7)) ∷ entryBytes (entry o 44 Sig.chad) ∷ entryBytes (entry (o + 44) 292 Sig.A2B0)

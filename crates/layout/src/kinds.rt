@@ -1,4 +1,4 @@
-// The elements of each kind of profile, in tag order; each function answers the place after them.
+// The elements of each kind of profile, in tag order.
 ghost use mathlib.Core.Path.{_≡_};
 ghost use mathlib.Core.List.{_∷_, []};
 ghost use Prim.Native.Nat.{_+_, _≤_};
@@ -39,19 +39,12 @@ fn put_color_elements(out: &mut [u8], at: usize, columns: [i32; 9], curve: Curve
     elements::put_curve(out, at, curve)
 }
 
-pub fn put_gray_elements(
-    out: &mut [u8],
-    at: usize,
-    text: &[u8],
-    curve: Curve,
-    x: i32,
-    z: i32,
-) -> usize
+pub fn put_gray_elements(out: &mut [u8], at: usize, text: &[u8], curve: Curve, x: i32, z: i32)
     requires { ⌜ (length (now text) ≤ 372) × (at + bodySize (slotsOf (grayShape (length (now text)) curve)) ≤ length (now out)) ⌝ }
     ensures { λ _. ⌜ now (out .exit) ≡ put (now (out .entry)) at (body (elementsOf (gray (now (text .entry)) curve x z))) ⌝ }
 {
     let at = put_first_elements(out, at, text, [x, 65536, z]);
-    elements::put_curve(out, at, curve)
+    elements::put_curve(out, at, curve);
 }
 
 pub fn put_rgb_elements(
@@ -62,17 +55,17 @@ pub fn put_rgb_elements(
     chad: [i32; 9],
     columns: [i32; 9],
     cicp: Cicp,
-) -> usize
+)
     requires { ⌜ (length (now text) ≤ 372) × (at + bodySize (slotsOf (rgbShape (length (now text)) curve cicp)) ≤ length (now out)) ⌝ }
     ensures { λ _. ⌜ now (out .exit) ≡ put (now (out .entry)) at (body (elementsOf (rgb (now (text .entry)) curve chad columns cicp))) ⌝ }
 {
     let at = put_first_elements(out, at, text, D50);
     let at = elements::create_icc_chad_tag(out, at, &chad);
     let at = elements::create_icc_cicp_tag_data(out, at, cicp, curve);
-    put_color_elements(out, at, columns, curve)
+    put_color_elements(out, at, columns, curve);
 }
 
-pub fn put_xyb_elements(out: &mut [u8], at: usize) -> usize
+pub fn put_xyb_elements(out: &mut [u8], at: usize)
     requires { ⌜ at + bodySize (slotsOf xybShape) ≤ length (now out) ⌝ }
     ensures { λ _. ⌜ now (out .exit) ≡ put (now (out .entry)) at (body (elementsOf xyb)) ⌝ }
 {
@@ -80,5 +73,5 @@ pub fn put_xyb_elements(out: &mut [u8], at: usize) -> usize
     let at = put_first_elements(out, at, b"XYB_Per", D50);
     let at = elements::create_icc_chad_tag(out, at, &chad);
     let at = xyb::create_icc_lut_atob_tag_for_xyb(out, at);
-    xyb::create_icc_noop_btoa_tag(out, at)
+    xyb::create_icc_noop_btoa_tag(out, at);
 }

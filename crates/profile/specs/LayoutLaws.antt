@@ -11,9 +11,9 @@ use Rattle.numbers.specs.WordsLaws.{length-be16, length-be32}
 use Rattle.buffer.specs.Buffer.{put}
 use Rattle.md5.specs.Md5.{md5}
 use Rattle.md5.specs.Md5Laws.{length-md5}
-use Rattle.profile.specs.Elements.{file, fileLength}
+use Rattle.profile.specs.Elements.{file, fileLength, start, tagCount, bodySize, padding}
 use Rattle.profile.specs.ElementsLaws.{Fours, length-file}
-use Rattle.profile.specs.Plan.{Plan, Kind, isGray, isRgb, isXyb, kind, Good}
+use Rattle.profile.specs.Plan.{Plan, Kind, isGray, isRgb, isXyb, kind, xybPlan, Good}
 use Rattle.profile.specs.TagTypes.{join, zeros, s15Fixed16s}
 use Rattle.profile.specs.Layout
 use Rattle.profile.specs.Shape.{shape, slotsOf}
@@ -78,6 +78,10 @@ layout-bounds N p g =
       PlanLaws.at-least (shape p .kind) (shape p .letters) (shape p .gamma) (shape p .cicp) (s .some-letter),
       PlanLaws.at-most (shape p .kind) (shape p .letters) (shape p .gamma) (shape p .cicp) (s .short),
     )
+
+pub length-xyb : (i : ℕ) → length (Layout.layout (xybPlan i)) ≡ 720
+unfolding slotsOf fileLength start tagCount bodySize padding
+length-xyb i = length-layout (xybPlan i) tt
 
 -- ---- the file with its three fields blank
 

@@ -239,11 +239,7 @@ fn cicp_of(white: JxlWhitePoint, primaries: JxlPrimaries, curve: Curve) -> Cicp
 fn is_s15_fixed_16(value: f32) -> bool
     ensures { λ r. ⌜ r ≡ isS15Fixed16 value ⌝ }
 {
-    if -32767.995 <= value {
-        value <= 32767.995
-    } else {
-        false
-    }
+    -32767.995 <= value && value <= 32767.995
 }
 
 fn all_s15_fixed_16(values: &[f32]) -> bool
@@ -324,7 +320,7 @@ pub fn validate_icc_matrix(encoding: JxlColorEncoding) -> Validation
             primaries,
             transfer_function: _,
             rendering_intent: _,
-        } => { validate_rgb(primaries.to_xy_coords(), white_point.to_xy_coords()) }
+        } => validate_rgb(primaries.to_xy_coords(), white_point.to_xy_coords()),
         JxlColorEncoding::XYB {
             rendering_intent: _,
         } => Validation::Valid,

@@ -2,12 +2,10 @@
 -- Assumes nothing.
 use mathlib.Core.Path.{refl, sym, _∙_}
 use native.Mathlib.Omega.{arith}
-use lib.ListN.{length}
 use borrow.Author.Needs.{needs}
 use Rattle.profile.specs.Plan.{rgbPlan, isRgb}
 use Rattle.profile.specs.Layout.{elements}
 use Rattle.profile.specs.LayoutLaws.{length-layout}
-use Rattle.profile.specs.Shape.{slotsOf, isGamma, hasCicp}
 use Rattle.layout.proofs.Finish.{fits, finished}
 use Rattle.layout.proofs.put_rgb.Statement.{statement}
 use Rattle.layout.proofs.put_rgb.Tie as tie

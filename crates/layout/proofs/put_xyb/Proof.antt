@@ -6,10 +6,9 @@ use borrow.Author.Needs.{needs}
 use Rattle.profile.specs.Elements.{fileLength}
 use Rattle.profile.specs.Plan.{xybPlan, isXyb}
 use Rattle.profile.specs.Layout.{elements}
-use Rattle.profile.specs.LayoutLaws.{length-layout}
+use Rattle.profile.specs.LayoutLaws.{length-layout, length-xyb}
 use Rattle.profile.specs.Shape.{slotsOf, xybShape}
-use Rattle.layout.proofs.TableParts.{xyb-start, xyb-file}
-use Rattle.layout.proofs.KindParts.{xyb-sizes}
+use Rattle.layout.proofs.TableParts.{xyb-start}
 use Rattle.layout.proofs.Finish.{fits, finished}
 use Rattle.layout.proofs.put_xyb.Statement.{statement}
 use Rattle.layout.proofs.put_xyb.Tie as tie
@@ -18,16 +17,16 @@ cast-create-icc-header : tie.Need-cast-create-icc-header
 cast-create-icc-header c = search needs
 
 create-icc-header-requires : tie.Need-create-icc-header-requires
-create-icc-header-requires c κs = omega (arith, fits _ _ (c .before .before .before .before .before .before .pre) tt (omega arith), xyb-start, xyb-file)
+create-icc-header-requires c κs = omega (arith, fits _ _ (c .before .before .before .before .before .before .pre) tt (omega arith), xyb-start, length-xyb 0)
 
 put-xyb-table-requires : tie.Need-put-xyb-table-requires
-put-xyb-table-requires c κs = omega (arith, fits _ _ (c .before .before .before .before .before .before .before .before .before .before .pre) tt (omega arith), xyb-start, xyb-file)
+put-xyb-table-requires c κs = omega (arith, fits _ _ (c .before .before .before .before .before .before .before .before .before .before .pre) tt (omega arith), xyb-start, length-xyb 0)
 
 put-xyb-elements-requires : tie.Need-put-xyb-elements-requires
-put-xyb-elements-requires c κs = omega (arith, fits _ _ (c .before .before .before .before .before .before .before .before .before .before .before .before .before .before .pre) tt (omega arith), xyb-start, xyb-file)
+put-xyb-elements-requires c κs = omega (arith, fits _ _ (c .before .before .before .before .before .before .before .before .before .before .before .before .before .before .pre) tt (omega arith), xyb-start, length-xyb 0)
 
 put-intent-and-id-requires : tie.Need-put-intent-and-id-requires
-put-intent-and-id-requires c κs = omega (arith, fits _ _ (c .before .before .before .before .before .before .before .before .before .before .before .before .before .before .before .before .before .before .pre) tt (omega arith), xyb-start, xyb-file)
+put-intent-and-id-requires c κs = omega (arith, fits _ _ (c .before .before .before .before .before .before .before .before .before .before .before .before .before .before .before .before .before .before .pre) tt (omega arith), xyb-start, length-xyb 0)
 
 same-length : tie.Need-same-length
 same-length c = search needs
@@ -40,7 +39,7 @@ returns c =
     let s2 = s3 .before .before .before .before in
     let s1 = s2 .before .before .before .before in
     let start = s1 .before .before .before .before .before .before .before in
-    let size : 720 ≡ fileLength (slotsOf xybShape) = xyb-file in (
+    let size : 720 ≡ fileLength (slotsOf xybShape) = sym (length-xyb 0) ∙ length-layout (xybPlan 0) tt in (
       s4 .put-intent-and-id .ensures .0 ∙ size ∙ sym (length-layout (xybPlan 0) tt),
       finished (xybPlan 0) tt (start .args .out .now) (start .pre) size (s2 .put-xyb-table .ensures .0 ∙ sym xyb-start)
           (s1 .create-icc-header .ensures isXyb refl refl) (s2 .put-xyb-table .ensures .1) (s3 .put-xyb-elements .ensures) (s4 .put-intent-and-id .ensures .1),
