@@ -1,19 +1,44 @@
 -- The examples of 01 that are to be proved ("Sheets to try", marked with a star), evaluated on the definitions. Assumes nothing.
 use Prim.Native.Nat.{ℕ}
-use mathlib.Core.Path.{_≡_, refl}
-use lib.IntN.{pos, negsuc}
-use lib.Ieee.{Float, binary32, ofBits, size}
+use mathlib.Core.Path.{_≡_, refl, ap, _∙_}
+use mathlib.Core.List.{List, [], _∷_}
+use lib.IntN.{ℤ, pos, negsuc}
+use lib.Ieee.{Float, binary32, ofBits, size, neg, lt, le, eq, add, sub, mul, div}
+use lib.ListN.{length}
+use native.Mathlib.Nat.{le-refl}
+use borrow.Author.Tests.{le-leb}
 use Rattle.buffer.specs.Ascii.{ascii}
 use Rattle.numbers.specs.Fixed.{s15Fixed16}
 use Rattle.numbers.specs.declared.fixed.S15Fixed16.the-variants.{Number, OutOfRange}
-use Rattle.color_encoding.specs.declared.RenderingIntent.the-variants.{Perceptual}
+use Rattle.color_encoding.specs.declared.RenderingIntent.the-variants.{Perceptual, Relative}
+use Rattle.color_encoding.specs.declared.RenderingIntent.{RenderingIntent}
+use Rattle.color_encoding.specs.declared.JxlColorEncoding.{JxlColorEncoding}
 use Rattle.color_encoding.specs.declared.JxlWhitePoint.the-variants as W
 use Rattle.color_encoding.specs.declared.JxlPrimaries.the-variants as P
 use Rattle.color_encoding.specs.declared.JxlTransferFunction.the-variants as F
-use Rattle.color_encoding.specs.declared.JxlColorEncoding.the-variants.{RgbColorSpace}
+use Rattle.color_encoding.specs.declared.JxlColorEncoding.the-variants.{RgbColorSpace, GrayscaleColorSpace, XYB}
 use Rattle.decimal.specs.Decimal.{digits, lastDigits}
 use Rattle.decimal.specs.Seven.{sevenDecimals}
-use Rattle.text.specs.Description.{description}
+use Rattle.linalg.specs.Binary64.{abs}
+use Rattle.linalg.specs.Linalg.{dot, applied, product}
+use Rattle.linalg.specs.Inverse.{minor, cofactor, cofactors, determinant, adjugate, singular, inverse}
+use Rattle.numbers.specs.Narrow.{narrow}
+use Rattle.colorimetry.specs.White.{inRange, whiteXyz, finite, finiteXyz, cieXyzFromWhiteCieXy}
+use Rattle.colorimetry.specs.Adapt.{hasZero, allFinite, lms, gains, adaptable, adaptationMatrix, adaptToXyzD50, narrowed, createIccChadMatrix}
+use Rattle.colorimetry.specs.Primaries.{primariesMatrix, scaledPrimaries, primariesToXyz, primariesToXyzD50, createIccRgbMatrix}
+use Rattle.text.specs.Description.{whiteName, primariesName, transferName, rgbText, grayText, rgbDescription, description}
+use Rattle.profile.specs.Elements.{fileLength, start, bodySize, tagCount, padding}
+use Rattle.profile.specs.Plan.{Plan, grayPlan, rgbPlan, xybPlan}
+use Rattle.profile.specs.Shape.{slotsOf}
+use Rattle.profile.specs.Layout.{layout}
+use Rattle.profile.specs.LayoutLaws.{length-layout}
+use Rattle.profile.specs.declared.CurveName.the-variants as Name
+use Rattle.profile.specs.declared.Curve.the-variants.{Named}
+use Rattle.profile.specs.declared.Cicp.the-variants.{Primaries}
+use Rattle.writer.specs.Checked.{Checked, is}
+use Rattle.writer.specs.PlanOf.{planOf}
+use Rattle.writer.specs.Writer.{answer}
+use Rattle.writer.specs.declared.Profile.the-variants.{Written}
 
 abbrev b32 : ℕ → Float
 b32 n = ofBits binary32 n
@@ -67,3 +92,53 @@ minus-zero = refl
 pub srgb-text : description (RgbColorSpace W.D65 P.SRGB F.SRGB Perceptual) ≡ ascii "sRGB"
 unfolding description
 srgb-text = refl
+
+-- ---- profiles: the plan of an encoding, evaluated, and what the writer answers for an output of just its length
+
+abbrev srgb : RenderingIntent → JxlColorEncoding
+srgb i = RgbColorSpace W.D65 P.SRGB F.SRGB i
+
+-- `chad` of D65, and the columns of SRGB under it
+abbrev chadD65 : List ℤ
+chadD65 = pos 68672 ∷ pos 1501 ∷ negsuc 3286 ∷ pos 1938 ∷ pos 64912 ∷ negsuc 1117 ∷ negsuc 605 ∷ pos 987 ∷ pos 49281 ∷ []
+
+abbrev columnsSrgb : List ℤ
+columnsSrgb = pos 28575 ∷ pos 14581 ∷ pos 912 ∷ pos 25238 ∷ pos 46983 ∷ pos 6363 ∷ pos 9378 ∷ pos 3973 ∷ pos 46806 ∷ []
+
+-- the length of a plan that is known
+exact : {q : Checked Plan} (p : Plan) (n : ℕ) → q ≡ is p → length (layout p) ≡ n → answer q n ≡ Written n
+exact p n h e = ap (λ (c : Checked Plan). answer c n) h ∙ simp (e, le-leb n n (le-refl n))
+
+abbrev srgbPlan : ℕ → List ℕ → Plan
+srgbPlan i t = rgbPlan i t (Named Name.SRGB) chadD65 columnsSrgb (Primaries 1)
+
+pub perceptual-plan : planOf (srgb Perceptual) ≡ is (srgbPlan 0 (ascii "sRGB"))
+unfolding planOf description rgbDescription createIccChadMatrix adaptToXyzD50 adaptationMatrix adaptable inRange finite finiteXyz whiteXyz hasZero allFinite lms gains narrowed createIccRgbMatrix primariesToXyzD50 primariesToXyz primariesMatrix scaledPrimaries singular inverse adjugate determinant cofactors cofactor minor abs applied product dot narrow s15Fixed16 ofBits neg eq lt le add sub mul div
+perceptual-plan = refl
+
+pub perceptual-504 : answer (planOf (srgb Perceptual)) 504 ≡ Written 504
+unfolding slotsOf fileLength start bodySize tagCount padding
+perceptual-504 = exact _ 504 perceptual-plan (length-layout (srgbPlan 0 (ascii "sRGB")) (refl, refl))
+
+pub relative-plan : planOf (srgb Relative) ≡ is (srgbPlan 1 (ascii "RGB_D65_SRG_Rel_SRG"))
+unfolding planOf description rgbDescription rgbText whiteName primariesName transferName createIccChadMatrix adaptToXyzD50 adaptationMatrix adaptable inRange finite finiteXyz whiteXyz hasZero allFinite lms gains narrowed createIccRgbMatrix primariesToXyzD50 primariesToXyz primariesMatrix scaledPrimaries singular inverse adjugate determinant cofactors cofactor minor abs applied product dot narrow s15Fixed16 ofBits neg eq lt le add sub mul div
+relative-plan = refl
+
+pub relative-536 : answer (planOf (srgb Relative)) 536 ≡ Written 536
+unfolding slotsOf fileLength start bodySize tagCount padding
+relative-536 = exact _ 536 relative-plan (length-layout (srgbPlan 1 (ascii "RGB_D65_SRG_Rel_SRG")) (refl, refl))
+
+abbrev gray : Plan
+gray = grayPlan 1 (ascii "Gra_D65_Rel_SRG") (Named Name.SRGB) (pos 62289) (pos 71372)
+
+pub gray-plan : planOf (GrayscaleColorSpace W.D65 F.SRGB Relative) ≡ is gray
+unfolding planOf description grayText whiteName transferName cieXyzFromWhiteCieXy abs s15Fixed16 ofBits neg eq lt le add sub mul div
+gray-plan = refl
+
+pub gray-328 : answer (planOf (GrayscaleColorSpace W.D65 F.SRGB Relative)) 328 ≡ Written 328
+unfolding slotsOf fileLength start bodySize tagCount padding
+gray-328 = exact _ 328 gray-plan (length-layout gray tt)
+
+pub xyb-720 : answer (planOf (XYB Perceptual)) 720 ≡ Written 720
+unfolding planOf slotsOf fileLength start bodySize tagCount padding
+xyb-720 = exact (xybPlan 0) 720 refl (length-layout (xybPlan 0) tt)
