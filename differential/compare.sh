@@ -21,7 +21,7 @@ cp -R "$here/../crates" "$out/port/crates"
 mkdir -p "$out/port/crates/leaves/src"
 cp "$here/leaves/lib.rt.in" "$out/port/crates/leaves/src/lib.rt"
 cp "$here/../crates.txt" "$out/port/crates.txt"
-echo "leaves: buffer numbers md5 decimal text color_encoding colorimetry" >>"$out/port/crates.txt"
+echo "leaves: buffer numbers md5 linalg decimal text color_encoding colorimetry" >>"$out/port/crates.txt"
 (cd "$out/port" && rt staticlib leaves && rt staticlib host) >"$out/port.log"
 
 rm -rf "$out/compare"

@@ -86,6 +86,12 @@ fn leaves(run: &mut Run) {
         |m| port::md5(m),
     );
     run.leaf(
+        "linear algebra",
+        pieces::matrices,
+        |(a, b)| leaves::linalg(*a, *b),
+        |(a, b)| port::linalg(*a, *b),
+    );
+    run.leaf(
         "adaptation",
         pieces::colours,
         |c| leaves::adaptation(c.wx, c.wy),

@@ -1,7 +1,7 @@
 //! The port, through its static libraries: the leaves, and the writer by its C entries.
 
 use judge::encoding::{Encoding, GRAY, RGB};
-use judge::leaves::Numbers;
+use judge::leaves::{Linalg, Numbers, double_bits};
 
 mod entries {
     unsafe extern "C" {
@@ -39,6 +39,9 @@ mod entries {
         pub fn leaf_text(x: u32, out: *mut u8, len: usize) -> usize;
         pub fn leaf_md5(data: *const u8, data_len: usize, out: *mut u8, len: usize) -> usize;
         pub fn leaf_adaptation(wx: u32, wy: u32, out: *mut u8, len: usize) -> u32;
+        pub fn leaf_product(a: *const f64, b: *const f64, out: *mut f64);
+        pub fn leaf_applied(a: *const f64, v: *const f64, out: *mut f64);
+        pub fn leaf_inverse(a: *const f64, out: *mut f64) -> u32;
         pub fn leaf_gray_white(wx: u32, wy: u32, out: *mut u8, len: usize) -> u32;
         #[allow(clippy::too_many_arguments)]
         pub fn leaf_columns(
@@ -112,6 +115,20 @@ fn numbers<const N: usize>(mut call: impl FnMut(*mut u8, usize) -> u32) -> Numbe
 
 pub fn adaptation(wx: u32, wy: u32) -> Numbers<9> {
     numbers(|out, len| unsafe { entries::leaf_adaptation(wx, wy, out, len) })
+}
+
+pub fn linalg(a: [f64; 9], b: [f64; 9]) -> Linalg {
+    let (mut product, mut inverse, mut applied) = ([0.0; 9], [0.0; 9], [0.0; 3]);
+    let status = unsafe {
+        entries::leaf_product(a.as_ptr(), b.as_ptr(), product.as_mut_ptr());
+        entries::leaf_applied(a.as_ptr(), b.as_ptr(), applied.as_mut_ptr());
+        entries::leaf_inverse(a.as_ptr(), inverse.as_mut_ptr())
+    };
+    Linalg {
+        product: double_bits(&product),
+        applied: double_bits(&applied),
+        inverse: (status == 0).then(|| double_bits(&inverse)),
+    }
 }
 
 pub fn gray_white(wx: u32, wy: u32) -> Numbers<3> {

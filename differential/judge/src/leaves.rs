@@ -2,6 +2,7 @@
 
 use jxl::api::color::{self, JxlTransferFunction, open};
 use jxl::error::Error;
+use jxl::util::{inv_3x3_matrix, mul_3x3_matrix, mul_3x3_vector};
 
 /// Every NaN is written as this one: which NaN an operation gives is left to the machine.
 const NAN: u32 = 0x7fc0_0000;
@@ -87,4 +88,40 @@ fn numbers<const ROWS: usize, const N: usize>(
 
 fn float_bits(value: f32) -> u32 {
     if value.is_nan() { NAN } else { value.to_bits() }
+}
+
+/// What `util/linalg.rs` makes of two matrices, as bits: their product, the product of the first with the
+/// first row of the second, and the inverse of the first, or None where it is refused. The sign of
+/// a zero is left out: a sum of the original starts from a zero.
+#[derive(Clone, Copy, Debug, PartialEq, Eq)]
+pub struct Linalg {
+    pub product: [u64; 9],
+    pub applied: [u64; 3],
+    pub inverse: Option<[u64; 9]>,
+}
+
+pub fn linalg(a: [f64; 9], b: [f64; 9]) -> Linalg {
+    let rows = |m: [f64; 9]| [[m[0], m[1], m[2]], [m[3], m[4], m[5]], [m[6], m[7], m[8]]];
+    let (a, b) = (rows(a), rows(b));
+    Linalg {
+        product: double_bits(mul_3x3_matrix(&a, &b).as_flattened()),
+        applied: double_bits(&mul_3x3_vector(&a, &b[0])),
+        inverse: inv_3x3_matrix(&a)
+            .ok()
+            .map(|m| double_bits(m.as_flattened())),
+    }
+}
+
+/// One NaN and one zero.
+pub fn double_bits<const N: usize>(values: &[f64]) -> [u64; N] {
+    let bits = |value: f64| {
+        if value.is_nan() {
+            f64::NAN.to_bits()
+        } else if value == 0.0 {
+            0
+        } else {
+            value.to_bits()
+        }
+    };
+    std::array::from_fn(|at| bits(values[at]))
 }

@@ -8,4 +8,4 @@ mod color;
 pub mod error;
 pub mod headers;
 mod icc;
-mod util;
+pub mod util;

@@ -74,3 +74,17 @@ fn of_kind(kind: u8) -> impl Iterator<Item = Encoding> {
     let all = encodings::boundary().into_iter();
     all.filter(move |one| one.kind == kind)
 }
+
+/// Two matrices: of any bits, of usual numbers, nearly singular, or of few different numbers.
+pub fn matrices(random: &mut Random, count: usize) -> Vec<([f64; 9], [f64; 9])> {
+    let mut one = || {
+        let mut entry: Box<dyn FnMut() -> f64> = match random.below(4) {
+            0 => Box::new(|| f64::from_bits(random.bits64())),
+            1 => Box::new(|| f64::from(random.between(-2.0, 2.0))),
+            2 => Box::new(|| f64::from(random.sized(-30, 30))),
+            _ => Box::new(|| f64::from(random.below(4)) * 1e-4),
+        };
+        std::array::from_fn(|_| entry())
+    };
+    (0..count).map(|_| (one(), one())).collect()
+}
