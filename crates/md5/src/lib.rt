@@ -11,6 +11,7 @@ ghost use Rattle.md5.specs.Md5.{
   wordsOf,
   message,
   operate,
+  sines,
   round1,
   round2,
   round3,
@@ -29,6 +30,74 @@ struct State {
     c: u32,
     d: u32,
 }
+
+// T[1 .. 64] (3.4). It is handed to the rounds: a literal in a step would be added last, where the next step waits for the sum.
+const SINES: [u32; 64] = [
+    0xd76aa478,
+    0xe8c7b756,
+    0x242070db,
+    0xc1bdceee,
+    0xf57c0faf,
+    0x4787c62a,
+    0xa8304613,
+    0xfd469501,
+    0x698098d8,
+    0x8b44f7af,
+    0xffff5bb1,
+    0x895cd7be,
+    0x6b901122,
+    0xfd987193,
+    0xa679438e,
+    0x49b40821,
+    0xf61e2562,
+    0xc040b340,
+    0x265e5a51,
+    0xe9b6c7aa,
+    0xd62f105d,
+    0x02441453,
+    0xd8a1e681,
+    0xe7d3fbc8,
+    0x21e1cde6,
+    0xc33707d6,
+    0xf4d50d87,
+    0x455a14ed,
+    0xa9e3e905,
+    0xfcefa3f8,
+    0x676f02d9,
+    0x8d2a4c8a,
+    0xfffa3942,
+    0x8771f681,
+    0x6d9d6122,
+    0xfde5380c,
+    0xa4beea44,
+    0x4bdecfa9,
+    0xf6bb4b60,
+    0xbebfbc70,
+    0x289b7ec6,
+    0xeaa127fa,
+    0xd4ef3085,
+    0x04881d05,
+    0xd9d4d039,
+    0xe6db99e5,
+    0x1fa27cf8,
+    0xc4ac5665,
+    0xf4292244,
+    0x432aff97,
+    0xab9423a7,
+    0xfc93a039,
+    0x655b59c3,
+    0x8f0ccc92,
+    0xffeff47d,
+    0x85845dd1,
+    0x6fa87e4f,
+    0xfe2ce6e0,
+    0xa3014314,
+    0x4e0811a1,
+    0xf7537e82,
+    0xbd3af235,
+    0x2ad7d2bb,
+    0xeb86d391,
+];
 
 fn rotate_left(x: u32, s: u32) -> u32
     requires { ⌜ (0 < s) × (s < 32) ⌝ }
@@ -84,99 +153,107 @@ fn step_i(w: State, x: u32, s: u32, t: u32) -> State
 }
 
 // The sixteen steps of each round. A line has the word, the shift and the sine part of one step.
-fn round_1(words: [u32; 16], w: State) -> State
+fn round_1(words: [u32; 16], t: [u32; 64], w: State) -> State
+    requires { ⌜ t ≡ sines ⌝ }
     ensures { λ r. ⌜ r ≡ round1 words w ⌝ }
 {
-    let w = step_f(w, words[0], 7, 0xd76aa478);
-    let w = step_f(w, words[1], 12, 0xe8c7b756);
-    let w = step_f(w, words[2], 17, 0x242070db);
-    let w = step_f(w, words[3], 22, 0xc1bdceee);
-    let w = step_f(w, words[4], 7, 0xf57c0faf);
-    let w = step_f(w, words[5], 12, 0x4787c62a);
-    let w = step_f(w, words[6], 17, 0xa8304613);
-    let w = step_f(w, words[7], 22, 0xfd469501);
-    let w = step_f(w, words[8], 7, 0x698098d8);
-    let w = step_f(w, words[9], 12, 0x8b44f7af);
-    let w = step_f(w, words[10], 17, 0xffff5bb1);
-    let w = step_f(w, words[11], 22, 0x895cd7be);
-    let w = step_f(w, words[12], 7, 0x6b901122);
-    let w = step_f(w, words[13], 12, 0xfd987193);
-    let w = step_f(w, words[14], 17, 0xa679438e);
-    let w = step_f(w, words[15], 22, 0x49b40821);
+    let w = step_f(w, words[0], 7, t[0]);
+    let w = step_f(w, words[1], 12, t[1]);
+    let w = step_f(w, words[2], 17, t[2]);
+    let w = step_f(w, words[3], 22, t[3]);
+    let w = step_f(w, words[4], 7, t[4]);
+    let w = step_f(w, words[5], 12, t[5]);
+    let w = step_f(w, words[6], 17, t[6]);
+    let w = step_f(w, words[7], 22, t[7]);
+    let w = step_f(w, words[8], 7, t[8]);
+    let w = step_f(w, words[9], 12, t[9]);
+    let w = step_f(w, words[10], 17, t[10]);
+    let w = step_f(w, words[11], 22, t[11]);
+    let w = step_f(w, words[12], 7, t[12]);
+    let w = step_f(w, words[13], 12, t[13]);
+    let w = step_f(w, words[14], 17, t[14]);
+    let w = step_f(w, words[15], 22, t[15]);
     w
 }
 
-fn round_2(words: [u32; 16], w: State) -> State
+fn round_2(words: [u32; 16], t: [u32; 64], w: State) -> State
+    requires { ⌜ t ≡ sines ⌝ }
     ensures { λ r. ⌜ r ≡ round2 words w ⌝ }
 {
-    let w = step_g(w, words[1], 5, 0xf61e2562);
-    let w = step_g(w, words[6], 9, 0xc040b340);
-    let w = step_g(w, words[11], 14, 0x265e5a51);
-    let w = step_g(w, words[0], 20, 0xe9b6c7aa);
-    let w = step_g(w, words[5], 5, 0xd62f105d);
-    let w = step_g(w, words[10], 9, 0x02441453);
-    let w = step_g(w, words[15], 14, 0xd8a1e681);
-    let w = step_g(w, words[4], 20, 0xe7d3fbc8);
-    let w = step_g(w, words[9], 5, 0x21e1cde6);
-    let w = step_g(w, words[14], 9, 0xc33707d6);
-    let w = step_g(w, words[3], 14, 0xf4d50d87);
-    let w = step_g(w, words[8], 20, 0x455a14ed);
-    let w = step_g(w, words[13], 5, 0xa9e3e905);
-    let w = step_g(w, words[2], 9, 0xfcefa3f8);
-    let w = step_g(w, words[7], 14, 0x676f02d9);
-    let w = step_g(w, words[12], 20, 0x8d2a4c8a);
+    let w = step_g(w, words[1], 5, t[16]);
+    let w = step_g(w, words[6], 9, t[17]);
+    let w = step_g(w, words[11], 14, t[18]);
+    let w = step_g(w, words[0], 20, t[19]);
+    let w = step_g(w, words[5], 5, t[20]);
+    let w = step_g(w, words[10], 9, t[21]);
+    let w = step_g(w, words[15], 14, t[22]);
+    let w = step_g(w, words[4], 20, t[23]);
+    let w = step_g(w, words[9], 5, t[24]);
+    let w = step_g(w, words[14], 9, t[25]);
+    let w = step_g(w, words[3], 14, t[26]);
+    let w = step_g(w, words[8], 20, t[27]);
+    let w = step_g(w, words[13], 5, t[28]);
+    let w = step_g(w, words[2], 9, t[29]);
+    let w = step_g(w, words[7], 14, t[30]);
+    let w = step_g(w, words[12], 20, t[31]);
     w
 }
 
-fn round_3(words: [u32; 16], w: State) -> State
+fn round_3(words: [u32; 16], t: [u32; 64], w: State) -> State
+    requires { ⌜ t ≡ sines ⌝ }
     ensures { λ r. ⌜ r ≡ round3 words w ⌝ }
 {
-    let w = step_h(w, words[5], 4, 0xfffa3942);
-    let w = step_h(w, words[8], 11, 0x8771f681);
-    let w = step_h(w, words[11], 16, 0x6d9d6122);
-    let w = step_h(w, words[14], 23, 0xfde5380c);
-    let w = step_h(w, words[1], 4, 0xa4beea44);
-    let w = step_h(w, words[4], 11, 0x4bdecfa9);
-    let w = step_h(w, words[7], 16, 0xf6bb4b60);
-    let w = step_h(w, words[10], 23, 0xbebfbc70);
-    let w = step_h(w, words[13], 4, 0x289b7ec6);
-    let w = step_h(w, words[0], 11, 0xeaa127fa);
-    let w = step_h(w, words[3], 16, 0xd4ef3085);
-    let w = step_h(w, words[6], 23, 0x04881d05);
-    let w = step_h(w, words[9], 4, 0xd9d4d039);
-    let w = step_h(w, words[12], 11, 0xe6db99e5);
-    let w = step_h(w, words[15], 16, 0x1fa27cf8);
-    let w = step_h(w, words[2], 23, 0xc4ac5665);
+    let w = step_h(w, words[5], 4, t[32]);
+    let w = step_h(w, words[8], 11, t[33]);
+    let w = step_h(w, words[11], 16, t[34]);
+    let w = step_h(w, words[14], 23, t[35]);
+    let w = step_h(w, words[1], 4, t[36]);
+    let w = step_h(w, words[4], 11, t[37]);
+    let w = step_h(w, words[7], 16, t[38]);
+    let w = step_h(w, words[10], 23, t[39]);
+    let w = step_h(w, words[13], 4, t[40]);
+    let w = step_h(w, words[0], 11, t[41]);
+    let w = step_h(w, words[3], 16, t[42]);
+    let w = step_h(w, words[6], 23, t[43]);
+    let w = step_h(w, words[9], 4, t[44]);
+    let w = step_h(w, words[12], 11, t[45]);
+    let w = step_h(w, words[15], 16, t[46]);
+    let w = step_h(w, words[2], 23, t[47]);
     w
 }
 
-fn round_4(words: [u32; 16], w: State) -> State
+fn round_4(words: [u32; 16], t: [u32; 64], w: State) -> State
+    requires { ⌜ t ≡ sines ⌝ }
     ensures { λ r. ⌜ r ≡ round4 words w ⌝ }
 {
-    let w = step_i(w, words[0], 6, 0xf4292244);
-    let w = step_i(w, words[7], 10, 0x432aff97);
-    let w = step_i(w, words[14], 15, 0xab9423a7);
-    let w = step_i(w, words[5], 21, 0xfc93a039);
-    let w = step_i(w, words[12], 6, 0x655b59c3);
-    let w = step_i(w, words[3], 10, 0x8f0ccc92);
-    let w = step_i(w, words[10], 15, 0xffeff47d);
-    let w = step_i(w, words[1], 21, 0x85845dd1);
-    let w = step_i(w, words[8], 6, 0x6fa87e4f);
-    let w = step_i(w, words[15], 10, 0xfe2ce6e0);
-    let w = step_i(w, words[6], 15, 0xa3014314);
-    let w = step_i(w, words[13], 21, 0x4e0811a1);
-    let w = step_i(w, words[4], 6, 0xf7537e82);
-    let w = step_i(w, words[11], 10, 0xbd3af235);
-    let w = step_i(w, words[2], 15, 0x2ad7d2bb);
-    let w = step_i(w, words[9], 21, 0xeb86d391);
+    let w = step_i(w, words[0], 6, t[48]);
+    let w = step_i(w, words[7], 10, t[49]);
+    let w = step_i(w, words[14], 15, t[50]);
+    let w = step_i(w, words[5], 21, t[51]);
+    let w = step_i(w, words[12], 6, t[52]);
+    let w = step_i(w, words[3], 10, t[53]);
+    let w = step_i(w, words[10], 15, t[54]);
+    let w = step_i(w, words[1], 21, t[55]);
+    let w = step_i(w, words[8], 6, t[56]);
+    let w = step_i(w, words[15], 10, t[57]);
+    let w = step_i(w, words[6], 15, t[58]);
+    let w = step_i(w, words[13], 21, t[59]);
+    let w = step_i(w, words[4], 6, t[60]);
+    let w = step_i(w, words[11], 10, t[61]);
+    let w = step_i(w, words[2], 15, t[62]);
+    let w = step_i(w, words[9], 21, t[63]);
     w
 }
 
 // The four rounds, and then the sums with the words that the block began with.
-fn block(words: [u32; 16], w: State) -> State
+fn block(words: [u32; 16], t: [u32; 64], w: State) -> State
+    requires { ⌜ t ≡ sines ⌝ }
     ensures { λ r. ⌜ r ≡ afterBlock words w ⌝ }
 {
-    let v = round_4(words, round_3(words, round_2(words, round_1(words, w))));
+    let v = round_1(words, t, w);
+    let v = round_2(words, t, v);
+    let v = round_3(words, t, v);
+    let v = round_4(words, t, v);
     State {
         a: std::num::wrapping_add_u32(v.a, w.a),
         b: std::num::wrapping_add_u32(v.b, w.b),
@@ -209,13 +286,14 @@ fn block_words(data: &[u8], i: usize) -> [u32; 16]
 }
 
 // All whole blocks of the data, one after the other. The data is read in place.
-fn process(data: &[u8], w: State) -> State
+fn process(data: &[u8], t: [u32; 64], w: State) -> State
+    requires { ⌜ t ≡ sines ⌝ }
     ensures { λ r. ⌜ r ≡ afterBlocks (length (now («data» .entry)) / 64) (wordsOf (now («data» .entry))) w ⌝ }
 {
     let mut v = w;
     let n = data.len() / 64;
     for i in 0..n {
-        v = block(block_words(data, i), v);
+        v = block(block_words(data, i), t, v);
     }
     v
 }
@@ -291,8 +369,8 @@ pub fn compute_md5(data: &[u8]) -> [u8; 16]
         c: 0x98badcfe,
         d: 0x10325476,
     };
-    let w = process(data, buffer);
+    let w = process(data, SINES, buffer);
     let mut tail = [0u8; 128];
     let end = pad(data, &mut tail);
-    digest(process(&tail[..end], w))
+    digest(process(&tail[..end], SINES, w))
 }

@@ -67,6 +67,6 @@ laid-out p out left n r e h w =
 pub refusal : {p : Checked Plan} {k : ℕ} (out : List ℕ) → p ≡ refused k → (Refused k ≡ answer p (length out)) × (out ≡ output p out)
 refusal {p} {k} out e = (sym (ap (λ (q : Checked Plan). answer q (length out)) e), sym (ap (λ (q : Checked Plan). output q out) e))
 
-pub plan-known : {p : Checked Plan} {q : Plan} (out left : List ℕ) (r : Profile) → p ≡ is q
-    → (r ≡ answer (is q) (length out)) × (left ≡ output (is q) out) → (r ≡ answer p (length out)) × (left ≡ output p out)
+pub plan-known : {p q : Checked Plan} (out left : List ℕ) (r : Profile) → p ≡ q
+    → (r ≡ answer q (length out)) × (left ≡ output q out) → (r ≡ answer p (length out)) × (left ≡ output p out)
 plan-known {p} {q} out left r e w = (w .0 ∙ sym (ap (λ (c : Checked Plan). answer c (length out)) e), w .1 ∙ sym (ap (λ (c : Checked Plan). output c out) e))

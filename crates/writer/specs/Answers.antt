@@ -7,11 +7,11 @@ use Rattle.color_encoding.specs.declared.JxlTransferFunction.{JxlTransferFuncti
 use Rattle.color_encoding.specs.declared.JxlTransferFunction.the-variants as F
 use Rattle.profile.specs.declared.Curve.{Curve}
 use Rattle.writer.specs.Checked.{Checked, is, refused}
-use Rattle.writer.specs.declared.CurveAnswer.{CurveAnswer}
-use Rattle.writer.specs.declared.CurveAnswer.the-variants as C
-use Rattle.writer.specs.declared.GrayWhite.{GrayWhite}
-use Rattle.writer.specs.declared.GrayWhite.the-variants as G
-use Rattle.writer.specs.declared.Numbers.{Numbers}
+use Rattle.writer.specs.declared.plan.CurveAnswer.{CurveAnswer}
+use Rattle.writer.specs.declared.plan.CurveAnswer.the-variants as C
+use Rattle.writer.specs.declared.plan.GrayWhite.{GrayWhite}
+use Rattle.writer.specs.declared.plan.GrayWhite.the-variants as G
+use Rattle.writer.specs.declared.plan.Numbers.{Numbers}
 
 -- the curves that `supported` refuses
 abbrev pub isHdr : JxlTransferFunction → Bool

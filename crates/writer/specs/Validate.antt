@@ -12,8 +12,8 @@ use Rattle.colorimetry.specs.Adapt.{createIccChadMatrix}
 use Rattle.colorimetry.specs.Primaries.{RgbToXyz, converted, invalid-white-point, inversion-failed, createIccRgbMatrix}
 use Rattle.colorimetry.specs.declared.WhiteXyz.{WhiteXyz}
 use Rattle.colorimetry.specs.declared.WhiteXyz.the-variants.{Xyz as WhiteIs, InvalidWhitePointY}
-use Rattle.writer.specs.declared.Validation.{Validation}
-use Rattle.writer.specs.declared.Validation.the-variants.{Valid, InvalidWhitePointY as WhitePointYInvalid, InvalidWhitePoint, MatrixInversionFailed, ValueOutOfRange}
+use Rattle.writer.specs.declared.validate.Validation.{Validation}
+use Rattle.writer.specs.declared.validate.Validation.the-variants.{Valid, InvalidWhitePointY as WhitePointYInvalid, InvalidWhitePoint, MatrixInversionFailed, ValueOutOfRange}
 
 -- `is_s15_fixed_16`: within ±32767.995, the f32 32767.994140625
 abbrev pub isS15Fixed16 : Float → Bool

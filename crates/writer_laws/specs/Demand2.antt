@@ -43,8 +43,8 @@ use Rattle.writer.specs.PlanOfLaws.{gray-plan, rgb-plan}
 use Rattle.writer.specs.MatrixLaws.{rgb-rows}
 use Rattle.writer.specs.Validate.{allS15Fixed16, validWhite, validChad, validMatrix, validateIccMatrix}
 use Rattle.writer.specs.Writer.{answer}
-use Rattle.writer.specs.declared.Validation.{Validation}
-use Rattle.writer.specs.declared.Validation.the-variants.{Valid, InvalidWhitePointY as WhitePointYInvalid, InvalidWhitePoint, MatrixInversionFailed, ValueOutOfRange}
+use Rattle.writer.specs.declared.validate.Validation.{Validation}
+use Rattle.writer.specs.declared.validate.Validation.the-variants.{Valid, InvalidWhitePointY as WhitePointYInvalid, InvalidWhitePoint, MatrixInversionFailed, ValueOutOfRange}
 use Rattle.writer.specs.declared.Profile.the-variants.{Written, Refused}
 use Rattle.writer_laws.specs.CheckedLaws.{Passes, never, both, number-if, tested-if, fixed-if, Tested, all-tested, tested-all, each-tested, each-passes}
 use Rattle.writer_laws.specs.PlanLaws.{rows, columns, chad-given, columns-given, supported-curve}

@@ -11,10 +11,10 @@ use Rattle.md5.proofs.process.Statement.{statement}
 use Rattle.md5.proofs.process.Tie as tie
 
 abbrev Inv-loop : tie.InvT-loop
-Inv-loop «data» v₀ n i₀ v i = (i ≤ n) × (v ≡ afterBlocks i (wordsOf «data») v₀)
+Inv-loop «data» t v₀ n i₀ v i = (i ≤ n) × (v ≡ afterBlocks i (wordsOf «data») v₀)
 
 abbrev μ-loop : tie.MeasureT-loop
-μ-loop «data» v₀ n i₀ v i = n - i
+μ-loop «data» t v₀ n i₀ v i = n - i
 
 loop-holds : tie.Need-loop-holds Inv-loop μ-loop
 unfolding afterBlocks

@@ -2,14 +2,15 @@
 -- Assumes nothing.
 use borrow.Author.Needs.{needs}
 use mathlib.Core.Path.{ap, _∙_}
-use Rattle.md5.specs.Md5.{operate, round1, F}
+use Rattle.md5.specs.Md5.{sines, operate, round1, F}
 use Rattle.md5.proofs.round_1.Statement.{statement}
 use Rattle.md5.proofs.round_1.Tie as tie
 
 returns : tie.Need-returns
-unfolding round1
+unfolding round1 sines
 returns c =
-    c .step-f16 .ensures ∙ ap (operate F _ _ _)
+    rw (c .before .before .before .before .before .before .before .before .before .before .before .before .before .before .before .before .pre) at
+    (c .step-f16 .ensures ∙ ap (operate F _ _ _)
     (c .before .step-f15 .ensures ∙ ap (operate F _ _ _)
     (c .before .before .step-f14 .ensures ∙ ap (operate F _ _ _)
     (c .before .before .before .step-f13 .ensures ∙ ap (operate F _ _ _)
@@ -24,42 +25,58 @@ returns c =
     (c .before .before .before .before .before .before .before .before .before .before .before .before .step-f4 .ensures ∙ ap (operate F _ _ _)
     (c .before .before .before .before .before .before .before .before .before .before .before .before .before .step-f3 .ensures ∙ ap (operate F _ _ _)
     (c .before .before .before .before .before .before .before .before .before .before .before .before .before .before .step-f2 .ensures ∙ ap (operate F _ _ _)
-    (c .before .before .before .before .before .before .before .before .before .before .before .before .before .before .before .step-f .ensures)))))))))))))))
+    (c .before .before .before .before .before .before .before .before .before .before .before .before .before .before .before .step-f .ensures))))))))))))))))
 
 pub round-1-spec : {M : Type 1} → statement M
 round-1-spec =
     tie.close
     (tie.spec
     (λ c. search needs)
-    (λ c κs. search needs)
     (λ c. search needs)
     (λ c κs. search needs)
     (λ c. search needs)
-    (λ c κs. search needs)
     (λ c. search needs)
     (λ c κs. search needs)
     (λ c. search needs)
-    (λ c κs. search needs)
     (λ c. search needs)
     (λ c κs. search needs)
     (λ c. search needs)
-    (λ c κs. search needs)
     (λ c. search needs)
     (λ c κs. search needs)
     (λ c. search needs)
-    (λ c κs. search needs)
     (λ c. search needs)
     (λ c κs. search needs)
     (λ c. search needs)
-    (λ c κs. search needs)
     (λ c. search needs)
     (λ c κs. search needs)
     (λ c. search needs)
-    (λ c κs. search needs)
     (λ c. search needs)
     (λ c κs. search needs)
     (λ c. search needs)
+    (λ c. search needs)
     (λ c κs. search needs)
+    (λ c. search needs)
+    (λ c. search needs)
+    (λ c κs. search needs)
+    (λ c. search needs)
+    (λ c. search needs)
+    (λ c κs. search needs)
+    (λ c. search needs)
+    (λ c. search needs)
+    (λ c κs. search needs)
+    (λ c. search needs)
+    (λ c. search needs)
+    (λ c κs. search needs)
+    (λ c. search needs)
+    (λ c. search needs)
+    (λ c κs. search needs)
+    (λ c. search needs)
+    (λ c. search needs)
+    (λ c κs. search needs)
+    (λ c. search needs)
+    (λ c. search needs)
+    (λ c κs. search needs)
+    (λ c. search needs)
     (λ c. search needs)
     (λ c κs. search needs)
     returns)

@@ -2,14 +2,15 @@
 -- Assumes nothing.
 use borrow.Author.Needs.{needs}
 use mathlib.Core.Path.{ap, _∙_}
-use Rattle.md5.specs.Md5.{operate, round2, G}
+use Rattle.md5.specs.Md5.{sines, operate, round2, G}
 use Rattle.md5.proofs.round_2.Statement.{statement}
 use Rattle.md5.proofs.round_2.Tie as tie
 
 returns : tie.Need-returns
-unfolding round2
+unfolding round2 sines
 returns c =
-    c .step-g16 .ensures ∙ ap (operate G _ _ _)
+    rw (c .before .before .before .before .before .before .before .before .before .before .before .before .before .before .before .before .pre) at
+    (c .step-g16 .ensures ∙ ap (operate G _ _ _)
     (c .before .step-g15 .ensures ∙ ap (operate G _ _ _)
     (c .before .before .step-g14 .ensures ∙ ap (operate G _ _ _)
     (c .before .before .before .step-g13 .ensures ∙ ap (operate G _ _ _)
@@ -24,42 +25,58 @@ returns c =
     (c .before .before .before .before .before .before .before .before .before .before .before .before .step-g4 .ensures ∙ ap (operate G _ _ _)
     (c .before .before .before .before .before .before .before .before .before .before .before .before .before .step-g3 .ensures ∙ ap (operate G _ _ _)
     (c .before .before .before .before .before .before .before .before .before .before .before .before .before .before .step-g2 .ensures ∙ ap (operate G _ _ _)
-    (c .before .before .before .before .before .before .before .before .before .before .before .before .before .before .before .step-g .ensures)))))))))))))))
+    (c .before .before .before .before .before .before .before .before .before .before .before .before .before .before .before .step-g .ensures))))))))))))))))
 
 pub round-2-spec : {M : Type 1} → statement M
 round-2-spec =
     tie.close
     (tie.spec
     (λ c. search needs)
-    (λ c κs. search needs)
     (λ c. search needs)
     (λ c κs. search needs)
     (λ c. search needs)
-    (λ c κs. search needs)
     (λ c. search needs)
     (λ c κs. search needs)
     (λ c. search needs)
-    (λ c κs. search needs)
     (λ c. search needs)
     (λ c κs. search needs)
     (λ c. search needs)
-    (λ c κs. search needs)
     (λ c. search needs)
     (λ c κs. search needs)
     (λ c. search needs)
-    (λ c κs. search needs)
     (λ c. search needs)
     (λ c κs. search needs)
     (λ c. search needs)
-    (λ c κs. search needs)
     (λ c. search needs)
     (λ c κs. search needs)
     (λ c. search needs)
-    (λ c κs. search needs)
     (λ c. search needs)
     (λ c κs. search needs)
     (λ c. search needs)
+    (λ c. search needs)
     (λ c κs. search needs)
+    (λ c. search needs)
+    (λ c. search needs)
+    (λ c κs. search needs)
+    (λ c. search needs)
+    (λ c. search needs)
+    (λ c κs. search needs)
+    (λ c. search needs)
+    (λ c. search needs)
+    (λ c κs. search needs)
+    (λ c. search needs)
+    (λ c. search needs)
+    (λ c κs. search needs)
+    (λ c. search needs)
+    (λ c. search needs)
+    (λ c κs. search needs)
+    (λ c. search needs)
+    (λ c. search needs)
+    (λ c κs. search needs)
+    (λ c. search needs)
+    (λ c. search needs)
+    (λ c κs. search needs)
+    (λ c. search needs)
     (λ c. search needs)
     (λ c κs. search needs)
     returns)

@@ -2,14 +2,15 @@
 -- Assumes nothing.
 use borrow.Author.Needs.{needs}
 use mathlib.Core.Path.{ap, _∙_}
-use Rattle.md5.specs.Md5.{operate, round3, H}
+use Rattle.md5.specs.Md5.{sines, operate, round3, H}
 use Rattle.md5.proofs.round_3.Statement.{statement}
 use Rattle.md5.proofs.round_3.Tie as tie
 
 returns : tie.Need-returns
-unfolding round3
+unfolding round3 sines
 returns c =
-    c .step-h16 .ensures ∙ ap (operate H _ _ _)
+    rw (c .before .before .before .before .before .before .before .before .before .before .before .before .before .before .before .before .pre) at
+    (c .step-h16 .ensures ∙ ap (operate H _ _ _)
     (c .before .step-h15 .ensures ∙ ap (operate H _ _ _)
     (c .before .before .step-h14 .ensures ∙ ap (operate H _ _ _)
     (c .before .before .before .step-h13 .ensures ∙ ap (operate H _ _ _)
@@ -24,42 +25,58 @@ returns c =
     (c .before .before .before .before .before .before .before .before .before .before .before .before .step-h4 .ensures ∙ ap (operate H _ _ _)
     (c .before .before .before .before .before .before .before .before .before .before .before .before .before .step-h3 .ensures ∙ ap (operate H _ _ _)
     (c .before .before .before .before .before .before .before .before .before .before .before .before .before .before .step-h2 .ensures ∙ ap (operate H _ _ _)
-    (c .before .before .before .before .before .before .before .before .before .before .before .before .before .before .before .step-h .ensures)))))))))))))))
+    (c .before .before .before .before .before .before .before .before .before .before .before .before .before .before .before .step-h .ensures))))))))))))))))
 
 pub round-3-spec : {M : Type 1} → statement M
 round-3-spec =
     tie.close
     (tie.spec
     (λ c. search needs)
-    (λ c κs. search needs)
     (λ c. search needs)
     (λ c κs. search needs)
     (λ c. search needs)
-    (λ c κs. search needs)
     (λ c. search needs)
     (λ c κs. search needs)
     (λ c. search needs)
-    (λ c κs. search needs)
     (λ c. search needs)
     (λ c κs. search needs)
     (λ c. search needs)
-    (λ c κs. search needs)
     (λ c. search needs)
     (λ c κs. search needs)
     (λ c. search needs)
-    (λ c κs. search needs)
     (λ c. search needs)
     (λ c κs. search needs)
     (λ c. search needs)
-    (λ c κs. search needs)
     (λ c. search needs)
     (λ c κs. search needs)
     (λ c. search needs)
-    (λ c κs. search needs)
     (λ c. search needs)
     (λ c κs. search needs)
     (λ c. search needs)
+    (λ c. search needs)
     (λ c κs. search needs)
+    (λ c. search needs)
+    (λ c. search needs)
+    (λ c κs. search needs)
+    (λ c. search needs)
+    (λ c. search needs)
+    (λ c κs. search needs)
+    (λ c. search needs)
+    (λ c. search needs)
+    (λ c κs. search needs)
+    (λ c. search needs)
+    (λ c. search needs)
+    (λ c κs. search needs)
+    (λ c. search needs)
+    (λ c. search needs)
+    (λ c κs. search needs)
+    (λ c. search needs)
+    (λ c. search needs)
+    (λ c κs. search needs)
+    (λ c. search needs)
+    (λ c. search needs)
+    (λ c κs. search needs)
+    (λ c. search needs)
     (λ c. search needs)
     (λ c κs. search needs)
     returns)

@@ -2,14 +2,15 @@
 -- Assumes nothing.
 use borrow.Author.Needs.{needs}
 use mathlib.Core.Path.{ap, _∙_}
-use Rattle.md5.specs.Md5.{operate, round4, I}
+use Rattle.md5.specs.Md5.{sines, operate, round4, I}
 use Rattle.md5.proofs.round_4.Statement.{statement}
 use Rattle.md5.proofs.round_4.Tie as tie
 
 returns : tie.Need-returns
-unfolding round4
+unfolding round4 sines
 returns c =
-    c .step-i16 .ensures ∙ ap (operate I _ _ _)
+    rw (c .before .before .before .before .before .before .before .before .before .before .before .before .before .before .before .before .pre) at
+    (c .step-i16 .ensures ∙ ap (operate I _ _ _)
     (c .before .step-i15 .ensures ∙ ap (operate I _ _ _)
     (c .before .before .step-i14 .ensures ∙ ap (operate I _ _ _)
     (c .before .before .before .step-i13 .ensures ∙ ap (operate I _ _ _)
@@ -24,42 +25,58 @@ returns c =
     (c .before .before .before .before .before .before .before .before .before .before .before .before .step-i4 .ensures ∙ ap (operate I _ _ _)
     (c .before .before .before .before .before .before .before .before .before .before .before .before .before .step-i3 .ensures ∙ ap (operate I _ _ _)
     (c .before .before .before .before .before .before .before .before .before .before .before .before .before .before .step-i2 .ensures ∙ ap (operate I _ _ _)
-    (c .before .before .before .before .before .before .before .before .before .before .before .before .before .before .before .step-i .ensures)))))))))))))))
+    (c .before .before .before .before .before .before .before .before .before .before .before .before .before .before .before .step-i .ensures))))))))))))))))
 
 pub round-4-spec : {M : Type 1} → statement M
 round-4-spec =
     tie.close
     (tie.spec
     (λ c. search needs)
-    (λ c κs. search needs)
     (λ c. search needs)
     (λ c κs. search needs)
     (λ c. search needs)
-    (λ c κs. search needs)
     (λ c. search needs)
     (λ c κs. search needs)
     (λ c. search needs)
-    (λ c κs. search needs)
     (λ c. search needs)
     (λ c κs. search needs)
     (λ c. search needs)
-    (λ c κs. search needs)
     (λ c. search needs)
     (λ c κs. search needs)
     (λ c. search needs)
-    (λ c κs. search needs)
     (λ c. search needs)
     (λ c κs. search needs)
     (λ c. search needs)
-    (λ c κs. search needs)
     (λ c. search needs)
     (λ c κs. search needs)
     (λ c. search needs)
-    (λ c κs. search needs)
     (λ c. search needs)
     (λ c κs. search needs)
     (λ c. search needs)
+    (λ c. search needs)
     (λ c κs. search needs)
+    (λ c. search needs)
+    (λ c. search needs)
+    (λ c κs. search needs)
+    (λ c. search needs)
+    (λ c. search needs)
+    (λ c κs. search needs)
+    (λ c. search needs)
+    (λ c. search needs)
+    (λ c κs. search needs)
+    (λ c. search needs)
+    (λ c. search needs)
+    (λ c κs. search needs)
+    (λ c. search needs)
+    (λ c. search needs)
+    (λ c κs. search needs)
+    (λ c. search needs)
+    (λ c. search needs)
+    (λ c κs. search needs)
+    (λ c. search needs)
+    (λ c. search needs)
+    (λ c κs. search needs)
+    (λ c. search needs)
     (λ c. search needs)
     (λ c κs. search needs)
     returns)

@@ -1,5 +1,8 @@
 -- `maybe_create_profile` meets its contract: each kind has its function, and which one the encoding is the match tells.
+use mathlib.Core.Path.{ap}
 use borrow.Author.Needs.{needs}
+use Rattle.writer.specs.PlanOf.{planOf}
+use Rattle.writer.proofs.Laying.{plan-known}
 use Rattle.writer.proofs.maybe_create_profile.Statement.{statement}
 use Rattle.writer.proofs.maybe_create_profile.Tie as tie
 
@@ -27,7 +30,7 @@ same-length c = search needs
 returns : tie.Need-returns
 returns c =
     let call = c .before .before in
-    rw (call .before .before .before .encoding .given .1) (call .write-rgb .ensures)
+    plan-known _ _ _ (ap planOf (call .before .before .before .encoding .given .1)) (call .write-rgb .ensures)
 
 same-length-2 : tie.Need-same-length-2
 same-length-2 c = search needs
@@ -35,7 +38,7 @@ same-length-2 c = search needs
 returns-2 : tie.Need-returns-2
 returns-2 c =
     let call = c .before .before in
-    rw (call .before .before .before .encoding2 .given .1) (call .write-gray .ensures)
+    plan-known _ _ _ (ap planOf (call .before .before .before .encoding2 .given .1)) (call .write-gray .ensures)
 
 same-length-3 : tie.Need-same-length-3
 same-length-3 c = search needs
@@ -43,7 +46,7 @@ same-length-3 c = search needs
 returns-3 : tie.Need-returns-3
 returns-3 c =
     let call = c .before .before in
-    rw (call .before .before .before .encoding3 .given .1) (call .write-xyb .ensures)
+    plan-known _ _ _ (ap planOf (call .before .before .before .encoding3 .given .1)) (call .write-xyb .ensures)
 
 pub maybe-create-profile-spec : {M : Type 1} → statement M
 maybe-create-profile-spec =

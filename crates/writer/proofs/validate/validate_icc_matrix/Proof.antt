@@ -5,8 +5,8 @@ use Rattle.colorimetry.specs.White.{cieXyzFromWhiteCieXy}
 use Rattle.colorimetry.specs.Adapt.{createIccChadMatrix}
 use Rattle.colorimetry.specs.Primaries.{createIccRgbMatrix}
 use Rattle.writer.specs.Validate.{validWhite, validChad, validMatrix, validateIccMatrix}
-use Rattle.writer.proofs.validate_icc_matrix.Statement.{statement}
-use Rattle.writer.proofs.validate_icc_matrix.Tie as tie
+use Rattle.writer.proofs.validate.validate_icc_matrix.Statement.{statement}
+use Rattle.writer.proofs.validate.validate_icc_matrix.Tie as tie
 
 enum-known-encoding : tie.Need-enum-known-encoding
 enum-known-encoding c = search needs

@@ -2,8 +2,8 @@
 use mathlib.Core.Path.{_≡_, sym, _∙_}
 use mathlib.Core.Bool.{true, false}
 use lib.Ieee.{binary32, ofBits, neg, le}
-use Rattle.writer.proofs.is_s15_fixed_16.Statement.{statement}
-use Rattle.writer.proofs.is_s15_fixed_16.Tie as tie
+use Rattle.writer.proofs.validate.is_s15_fixed_16.Statement.{statement}
+use Rattle.writer.proofs.validate.is_s15_fixed_16.Tie as tie
 
 returns : tie.Need-returns
 unfolding ofBits neg

@@ -7,8 +7,8 @@ use borrow.Author.Needs.{sfits-of, needs}
 use Rattle.profile.specs.declared.Curve.the-variants.{Gamma}
 use Rattle.writer.specs.Checked.{is}
 use Rattle.writer.specs.PlanOf.{curveOf}
-use Rattle.writer.proofs.curve_of.Statement.{statement}
-use Rattle.writer.proofs.curve_of.Tie as tie
+use Rattle.writer.proofs.plan.curve_of.Statement.{statement}
+use Rattle.writer.proofs.plan.curve_of.Tie as tie
 
 enum-told : tie.Need-enum-told
 enum-told c = search needs

@@ -5,8 +5,8 @@ use Rattle.colorimetry.specs.Primaries.{converted, invalid-white-point, inversi
 use Rattle.colorimetry.specs.AnswerLaws.{converted-if, invalid-white-point-if, inversion-failed-if}
 use Rattle.writer.specs.Checked.{each}
 use Rattle.writer.specs.PlanOf.{fixedOr}
-use Rattle.writer.proofs.column_numbers.Statement.{statement}
-use Rattle.writer.proofs.column_numbers.Tie as tie
+use Rattle.writer.proofs.plan.column_numbers.Statement.{statement}
+use Rattle.writer.proofs.plan.column_numbers.Tie as tie
 
 create-icc-rgb-matrix-requires : tie.Need-create-icc-rgb-matrix-requires
 create-icc-rgb-matrix-requires c κs = search needs

@@ -11,8 +11,8 @@ use borrow.Author.Needs.{needs, sfits-of}
 use borrow.Author.Tests.{ne-eqb}
 use Rattle.writer.specs.PlanOf.{fixedOr}
 use Rattle.writer.proofs.Each.{SoFar, none-yet, passed, stopped, all-passed}
-use Rattle.writer.proofs.fixed_numbers.Statement.{statement}
-use Rattle.writer.proofs.fixed_numbers.Tie as tie
+use Rattle.writer.proofs.plan.fixed_numbers.Statement.{statement}
+use Rattle.writer.proofs.plan.fixed_numbers.Tie as tie
 
 abbrev Inv-loop : tie.InvT-loop
 Inv-loop refusal v values₀ k₀ values k = (k ≤ 9) × (length values ≡ 9) × SoFar (fixedOr refusal) v k values

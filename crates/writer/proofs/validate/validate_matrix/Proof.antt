@@ -8,8 +8,8 @@ use Rattle.colorimetry.specs.Primaries.{converted, invalid-white-point, inversi
 use Rattle.colorimetry.specs.AnswerLaws.{converted-if, invalid-white-point-if, inversion-failed-if}
 use Rattle.writer.specs.Validate.{allS15Fixed16, validMatrix}
 use Rattle.writer.specs.MatrixLaws.{rgb-rows}
-use Rattle.writer.proofs.validate_matrix.Statement.{statement}
-use Rattle.writer.proofs.validate_matrix.Tie as tie
+use Rattle.writer.proofs.validate.validate_matrix.Statement.{statement}
+use Rattle.writer.proofs.validate.validate_matrix.Tie as tie
 
 create-icc-rgb-matrix-requires : tie.Need-create-icc-rgb-matrix-requires
 create-icc-rgb-matrix-requires c κs = search needs

@@ -9,8 +9,8 @@ use lib.Seq.{drop-cons, drop-length}
 use borrow.Author.Tests.{not-true, not-false}
 use borrow.Author.Needs.{needs}
 use Rattle.writer.specs.Validate.{allS15Fixed16}
-use Rattle.writer.proofs.all_s15_fixed_16.Statement.{statement}
-use Rattle.writer.proofs.all_s15_fixed_16.Tie as tie
+use Rattle.writer.proofs.validate.all_s15_fixed_16.Statement.{statement}
+use Rattle.writer.proofs.validate.all_s15_fixed_16.Tie as tie
 
 abbrev Inv-loop : tie.InvT-loop
 Inv-loop values k₀ k = (k ≤ length values) × (allS15Fixed16 values ≡ allS15Fixed16 (drop k values))

@@ -9,8 +9,8 @@ use Rattle.colorimetry.specs.Adapt.{createIccChadMatrix}
 use Rattle.colorimetry.specs.AnswerLaws.{adapted-if, white-refused-if}
 use Rattle.writer.specs.Validate.{allS15Fixed16}
 use Rattle.writer.specs.MatrixLaws.{chad-rows}
-use Rattle.writer.proofs.validate_rgb.Statement.{statement}
-use Rattle.writer.proofs.validate_rgb.Tie as tie
+use Rattle.writer.proofs.validate.validate_rgb.Statement.{statement}
+use Rattle.writer.proofs.validate.validate_rgb.Tie as tie
 
 create-icc-chad-matrix-requires : tie.Need-create-icc-chad-matrix-requires
 create-icc-chad-matrix-requires c κs = search needs

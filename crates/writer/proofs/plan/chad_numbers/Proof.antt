@@ -7,8 +7,8 @@ use Rattle.colorimetry.specs.AnswerLaws.{adapted-if, white-refused-if}
 use Rattle.writer.specs.Checked.{each}
 use Rattle.writer.specs.PlanOf.{fixedOr}
 use Rattle.writer.specs.MatrixLaws.{chad-rows}
-use Rattle.writer.proofs.chad_numbers.Statement.{statement}
-use Rattle.writer.proofs.chad_numbers.Tie as tie
+use Rattle.writer.proofs.plan.chad_numbers.Statement.{statement}
+use Rattle.writer.proofs.plan.chad_numbers.Tie as tie
 
 create-icc-chad-matrix-requires : tie.Need-create-icc-chad-matrix-requires
 create-icc-chad-matrix-requires c κs = search needs

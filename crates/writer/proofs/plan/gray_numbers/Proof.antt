@@ -8,8 +8,8 @@ use Rattle.writer.specs.Checked.{is}
 use Rattle.colorimetry.specs.White.{cieXyzFromWhiteCieXy}
 use Rattle.colorimetry.specs.declared.WhiteXyz.the-variants.{Xyz}
 use Rattle.writer.specs.PlanOf.{grayNumbers}
-use Rattle.writer.proofs.gray_numbers.Statement.{statement}
-use Rattle.writer.proofs.gray_numbers.Tie as tie
+use Rattle.writer.proofs.plan.gray_numbers.Statement.{statement}
+use Rattle.writer.proofs.plan.gray_numbers.Tie as tie
 
 cie-xyz-from-white-cie-xy-requires : tie.Need-cie-xyz-from-white-cie-xy-requires
 cie-xyz-from-white-cie-xy-requires c κs = search needs

@@ -5,8 +5,8 @@ use borrow.Author.Needs.{needs}
 use Rattle.colorimetry.specs.White.{cieXyzFromWhiteCieXy}
 use Rattle.colorimetry.specs.declared.WhiteXyz.the-variants.{Xyz}
 use Rattle.writer.specs.Validate.{validWhite}
-use Rattle.writer.proofs.validate_white.Statement.{statement}
-use Rattle.writer.proofs.validate_white.Tie as tie
+use Rattle.writer.proofs.validate.validate_white.Statement.{statement}
+use Rattle.writer.proofs.validate.validate_white.Tie as tie
 
 cie-xyz-from-white-cie-xy-requires : tie.Need-cie-xyz-from-white-cie-xy-requires
 cie-xyz-from-white-cie-xy-requires c κs = search needs
