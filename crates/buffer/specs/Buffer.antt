@@ -8,8 +8,3 @@ use lib.ListN.{length, take, drop}
 -- the list l with the bytes q from place i on, in place of as many
 unfoldable pub put : List ℕ → ℕ → List ℕ → List ℕ
 put l i q = take i l ++ (q ++ drop (i + length q) l)
-
--- out is entry with its front replaced by p
-pub record Written (entry p out : List ℕ) : Type 0 where
-  pub room : length p ≤ length entry
-  pub is : out ≡ p ++ drop (length p) entry

@@ -1,20 +1,24 @@
--- Laws of `put` and `Written`, by which a run of writes is shown to leave one list of bytes.
+-- Laws of `put`, by which a run of writes is shown to leave one list of bytes.
 -- Assumes nothing.
 use Prim.Native.Nat.{ℕ, _+_, _-_, _≤_}
 use mathlib.Core.Path.{_≡_, refl, ap, sym, _∙_}
 use mathlib.Core.List.{List, [], _∷_, _++_, append-assoc}
-use native.Mathlib.Nat.{add-assoc}
+use native.Mathlib.Nat.{add-zero, add-assoc}
 use native.Mathlib.Omega.{arith}
 use native.Mathlib.Numerals.{add-one, add-two, add-three}
-use lib.ListN.{length, take, drop, set, length-append, length-drop}
+use lib.ListN.{length, take, drop, set, length-append, length-drop, take-append-drop}
 use lib.Seq.{take-at, drop-drop, length-take-le, take-append-le, drop-append-le, drop-append-add, sets, sets-eq, paste, take-length}
-use Rattle.buffer.specs.Buffer.{put, Written}
+use Rattle.buffer.specs.Buffer.{put}
 
 -- ---- `put`
 
 pub length-put : (l : List ℕ) (i : ℕ) (q : List ℕ) → i + length q ≤ length l → length (put l i q) ≡ length l
 unfolding put
 length-put l i q h = simp (length-append, length-drop) (omega (arith, length-take-le i l (omega arith)))
+
+pub put-nothing : (l : List ℕ) (i : ℕ) → put l i [] ≡ l
+unfolding put
+put-nothing l i = rw add-zero (take-append-drop i l)
 
 -- bytes put where a front ends
 pub put-after : (p d r : List ℕ) (n : ℕ) → length p ≡ n → put (p ++ d) n r ≡ p ++ (r ++ drop (length r) d)
@@ -49,61 +53,3 @@ four-stores l i a b c d h = rw (add-one, add-two, add-three) (stores (a ∷ b �
 pub copied : (l : List ℕ) (i : ℕ) (q : List ℕ) → paste l i q (length q) ≡ put l i q
 unfolding put
 copied l i q = simp (take-length, append-assoc)
-
--- ---- `Written`
-
-pub nothing-written : (entry : List ℕ) → Written entry [] entry
-nothing-written entry = record { room = omega arith; is = refl }
-
--- a run of bytes after what is written
-pub then : {entry p mid : List ℕ} (q : List ℕ) → Written entry p mid → length p + length q ≤ length entry
-    → Written entry (p ++ q) (put mid (length p) q)
-then {entry} {p} {mid} q w h =
-    record {
-      room = rw length-append h;
-      is =
-          rw (w .is, put-after p (drop (length p) entry) q (length p) refl)
-          (simp (append-assoc, drop-drop, length-append));
-    }
-
--- as a call leaves it: a callee that puts q at i, where i is how much is written
-pub then-at : {entry p mid out : List ℕ} {i : ℕ} (q : List ℕ) → Written entry p mid → i ≡ length p → i + length q ≤ length entry → out ≡ put mid i q
-    → Written entry (p ++ q) out
-then-at {entry} {p} {mid} {out} {i} q w e h o =
-    let k : length p + length q ≤ length entry = rw e at h in
-    rw (o, e) (then q w k)
-
--- what is written is the front
-pub front : {entry p out : List ℕ} → Written entry p out → take (length p) out ≡ p
-front {entry} {p} {out} w = rw (w .is) (take-at p _ (length p) refl)
-
-pub same-length : {entry p out : List ℕ} → Written entry p out → length out ≡ length entry
-same-length {entry} {p} {out} w = rw (w .is) (length-append p _ ∙ simp length-drop (omega (arith, w .room)))
-
--- a byte
-pub then-byte : {entry p mid : List ℕ} (b : ℕ) → Written entry p mid → length p + 1 ≤ length entry → Written entry (p ++ (b ∷ [])) (set mid (length p) b)
-then-byte {entry} {p} {mid} b w h = rw (one-store mid (length p) b (omega (arith, same-length w))) (then (b ∷ []) w h)
-
--- a callee that is lent the rest, `&mut out[at..]`, and writes q at its front
-pub then-part : {entry p mid rest : List ℕ} (q : List ℕ) → Written entry p mid → Written (drop (length p) mid) q rest
-    → Written entry (p ++ q) (take (length p) mid ++ rest)
-unfolding put
-then-part {entry} {p} {mid} {rest} q w v =
-    let h : length q ≤ length mid - length p = rw length-drop at (v .room) in
-    rw (v .is, drop-drop (length q) (length p) mid) (then q w (omega (arith, same-length w, w .room)))
-
--- bytes put in again, within what is written
-pub again : {entry p mid : List ℕ} (i : ℕ) (q : List ℕ) → Written entry p mid → i + length q ≤ length p → Written entry (put p i q) (put mid i q)
-unfolding put
-again {entry} {p} {mid} i q w h =
-    record {
-      room = rw (length-put p i q h) (w .room);
-      is =
-          rw (
-            length-put p i q h,
-            w .is,
-            take-append-le i p (drop (length p) entry) (omega arith),
-            drop-append-le (i + length q) p (drop (length p) entry) h,
-          )
-          (simp append-assoc);
-    }

@@ -2,3 +2,5 @@ pub mod All
 pub mod Ascii
 pub mod Buffer
 pub mod BufferLaws
+pub mod Puts
+pub mod PutsLaws

@@ -10,20 +10,14 @@ use lib.Ieee.Fits.{and-l, and-r}
 use lib.Ieee.Nearest.{closest}
 use Rattle.decimal.specs.Decimal.{digit, lastDigits, digitsUpTo, digits}
 use Rattle.decimal.specs.Seven.{minus, withPoint, sevenDecimals}
-use Rattle.decimal.specs.Ascii.{Ascii}
+use Rattle.buffer.specs.Ascii.{Ascii}
+use Rattle.buffer.specs.All.{none, more}
 
 -- ---- lists
 
-pub nil : Ascii []
-nil k = lit≤ tt
-
-pub cons : (a : ℕ) (l : List ℕ) → a ≤ 127 → Ascii l → Ascii (a ∷ l)
-cons a l h hs zero = h
-cons a l h hs (suc k) = hs k
-
 pub append : (a b : List ℕ) → Ascii a → Ascii b → Ascii (a ++ b)
 append [] b h g = g
-append (x ∷ a) b h g = cons x (a ++ b) (h zero) (append a b (λ k. h (suc k)) g)
+append (x ∷ a) b (more p h) g = more p (append a b h g)
 
 -- letters that are written out: the test computes
 abbrev pub letters : List ℕ → Bool
@@ -31,17 +25,17 @@ letters [] = true
 letters (a ∷ l) = leb a 127 && letters l
 
 pub written : (l : List ℕ) → T (letters l) → Ascii l
-written [] t = nil
-written (a ∷ l) t = cons a l (leb→le a 127 (and-l (leb a 127) (letters l) t)) (written l (and-r (leb a 127) (letters l) t))
+written [] t = none
+written (a ∷ l) t = more (leb→le a 127 (and-l (leb a 127) (letters l) t)) (written l (and-r (leb a 127) (letters l) t))
 
 -- ---- digits
 
 one : (d : ℕ) → d < 10 → Ascii (digit d ∷ [])
-one d h = cons (digit d) [] (omega arith) nil
+one d h = let low : digit d ≤ 127 = omega arith in more low none
 
 pub ascii-last : (k n : ℕ) → Ascii (lastDigits k n)
 unfolding lastDigits
-ascii-last zero n = nil
+ascii-last zero n = none
 ascii-last (suc k) n = append (lastDigits k (n / 10)) (digit (n % 10) ∷ []) (ascii-last k (n / 10)) (one (n % 10) (omega arith))
 
 ascii-up-to : (k n : ℕ) → Ascii (digitsUpTo k n)
@@ -59,11 +53,11 @@ ascii-digits n = ascii-up-to (size n) n
 
 ascii-pointed : (q : ℕ) → Ascii (withPoint q)
 unfolding withPoint
-ascii-pointed q = append (digits (q / 10 ^ 7)) (46 ∷ lastDigits 7 q) (ascii-digits (q / 10 ^ 7)) (cons 46 (lastDigits 7 q) (lit≤ tt) (ascii-last 7 q))
+ascii-pointed q = append (digits (q / 10 ^ 7)) (46 ∷ lastDigits 7 q) (ascii-digits (q / 10 ^ 7)) (more (lit≤ tt) (ascii-last 7 q))
 
 ascii-minus : (s : Bool) → Ascii (minus s)
 ascii-minus true = written (45 ∷ []) tt
-ascii-minus false = nil
+ascii-minus false = none
 
 pub ascii-seven : (x : Float) → Ascii (sevenDecimals x)
 unfolding sevenDecimals

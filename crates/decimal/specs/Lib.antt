@@ -2,9 +2,6 @@ pub mod Decimal
 pub mod DecimalLaws
 pub mod Seven
 pub mod SevenLaws
-pub mod Ascii
 pub mod AsciiLaws
-pub mod Puts
-pub mod PutsLaws
 pub mod Parts
 pub mod PartsLaws

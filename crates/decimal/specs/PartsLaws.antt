@@ -11,8 +11,8 @@ use lib.Dec.{ltb}
 use lib.ListN.{length}
 use Rattle.decimal.specs.Decimal.{digits, lastDigits}
 use Rattle.decimal.specs.DecimalLaws.{digits-append, some-digit, length-digits}
-use Rattle.decimal.specs.Puts.{Puts}
-use Rattle.decimal.specs.PutsLaws.{then}
+use Rattle.buffer.specs.Puts.{Puts}
+use Rattle.buffer.specs.PutsLaws.{then}
 use Rattle.decimal.specs.Parts.{shown, part}
 
 pub shown-none : (v : ℕ) → v ≡ 0 → shown v ≡ []

@@ -11,7 +11,7 @@ ghost use lib.ListN.{length, replicate};
 ghost use lib.Ieee.Nearest.{closest};
 ghost use Rattle.buffer.specs.Buffer.{put};
 ghost use Rattle.decimal.specs.Decimal.{digits, lastDigits};
-ghost use Rattle.decimal.specs.Puts.{Puts};
+ghost use Rattle.buffer.specs.Puts.{Puts};
 ghost use Rattle.decimal.specs.Seven.{minus, withPoint, sevenDecimals};
 ghost use Rattle.decimal.specs.Parts.{valueOf, Proper, part};
 

@@ -2,24 +2,24 @@
 use Prim.Native.Nat.{ℕ, _+_, _≤_}
 use mathlib.Core.Path.{_≡_, refl, ap, ap₂, sym, _∙_}
 use mathlib.Core.List.{List, [], _∷_, _++_, append-nil}
-use native.Mathlib.Nat.{zero-add}
 use native.Mathlib.Omega.{arith}
 use lib.ListN.{length, take}
 use Rattle.numbers.specs.Words.{be32}
 use Rattle.numbers.specs.WordsLaws.{length-be32}
-use Rattle.buffer.specs.Buffer.{put, Written}
-use Rattle.buffer.specs.BufferLaws.{length-put, front, again}
+use Rattle.buffer.specs.Buffer.{put}
+use Rattle.buffer.specs.BufferLaws.{length-put}
 use Rattle.md5.specs.Md5.{md5}
 use Rattle.md5.specs.Md5Laws.{length-md5}
 use Rattle.profile.specs.Elements.{Slot, table, start, body, bodySize, file, fileLength}
 use Rattle.profile.specs.ElementsLaws.{length-table, length-file}
 use Rattle.profile.specs.Plan.{Plan, kind}
 use Rattle.profile.specs.PlanLaws.{Nines, slots-shape, at-most}
-use Rattle.profile.specs.PutsLaws.{next, there, done, puts}
+use Rattle.profile.specs.RunsLaws.{next, there, done, runs}
 use Rattle.profile.specs.TagTypes.{join, zeros}
 use Rattle.profile.specs.Layout.{header, elements, slots, withId, blanked, layout}
 use Rattle.profile.specs.LayoutLaws.{length-header, plan-fours, length-layout, blanked-withId, layout-last}
 use Rattle.profile.specs.Shape.{shape, slotsOf}
+use Rattle.layout.proofs.Front.{front, again}
 
 -- the header while the intent and the id are zero
 abbrev blank : Plan → ℕ → List ℕ
@@ -61,15 +61,6 @@ table-length : (p : Plan) → Nines (p .content) → 128 + length (table (slotsO
 unfolding start
 table-length p h = omega (arith, length-table (slotsOf (shape p)) (rw (slots-shape p h) at (plan-fours p h)))
 
--- what is put at the front is the front
-put-front : (l q : List ℕ) → length q ≤ length l → Written l q (put l 0 q)
-unfolding put
-put-front l q h = record { room = h; is = rw (zero-add (length q)) }
-
-as-put : {l q out : List ℕ} → Written l q out → out ≡ put l 0 q
-unfolding put
-as-put {l} {q} w = w .is ∙ rw (zero-add (length q))
-
 at-least-header : (ss : List Slot) → 128 ≤ fileLength ss
 unfolding fileLength start
 at-least-header ss = omega arith
@@ -81,14 +72,15 @@ pub finished : (p : Plan) → Nines (p .content) → (l : List ℕ) {a b d out :
 finished p h l {a} {b} {d} {out} {n} {s} room hn hs ha hb hd ho =
     let f : List ℕ = blanked (withId (zeros 16) p) in
     let laid : d ≡ put l 0 (join (blank p n ∷ table (slotsOf (shape p)) ∷ body (elements p) ∷ [])) =
-    puts (there (length-header (kind p) _ refl) ha (next refl (hs ∙ sym (table-length p h), hb) (there refl hd done))) (omega arith) .1
+    runs (there (length-header (kind p) _ refl) ha (next refl (hs ∙ sym (table-length p h), hb) (there refl hd done))) (omega arith) .1
     in
     let whole : length f ≡ n = length-blanked p h ∙ sym hn in
-    let fits : length f ≤ length l = omega (arith, length-layout p h) in
-    let w : Written l f d = rw (laid ∙ ap (put l 0) (blank-parts p h n hn)) (put-front l f fits) in
-    let hash : take n d ≡ f = ap (λ (k : ℕ). take k d) (sym whole) ∙ front w in
+    let at-front : d ≡ put l 0 f = laid ∙ ap (put l 0) (blank-parts p h n hn) in
+    let hash : take n d ≡ f = ap₂ take (sym whole) at-front ∙ front l f in
     let long : 128 ≤ length f = rw (length-blanked p h) (at-least-header (slotsOf (shape p))) in
-    ho ∙ ap (λ (x : List ℕ). put (put d 64 (be32 (p .intent))) 84 (md5 x)) hash
-    ∙ as-put (again 84 (md5 f) (again 64 (be32 (p .intent)) w (omega (arith, length-be32 (p .intent))))
-    (omega (arith, length-md5 f, length-be32 (p .intent), length-put f 64 (be32 (p .intent)) (omega (arith, length-be32 (p .intent))))))
+    let g : List ℕ = put f 64 (be32 (p .intent)) in
+    let intent : 64 + length (be32 (p .intent)) ≤ length f = omega (arith, length-be32 (p .intent)) in
+    ho ∙ ap₂ (λ (x y : List ℕ). put (put x 64 (be32 (p .intent))) 84 (md5 y)) at-front hash
+    ∙ ap (λ (x : List ℕ). put x 84 (md5 f)) (again l f 64 (be32 (p .intent)) intent)
+    ∙ again l g 84 (md5 f) (omega (arith, length-md5 f, length-put f 64 (be32 (p .intent)) intent))
     ∙ ap (put l 0) (layout-last p)

@@ -2,3 +2,4 @@ pub mod HeaderParts
 pub mod TableParts
 pub mod KindParts
 pub mod Finish
+pub mod Front

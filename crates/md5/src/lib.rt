@@ -1,8 +1,8 @@
 // MD5 of a slice, as RFC 1321 defines it. The sections named below are the RFC's.
 ghost use mathlib.Core.Path.{_≡_};
-ghost use mathlib.Core.List.{_++_};
 ghost use Prim.Native.Nat.{_+_, _*_, _/_, _≤_, _<_};
 ghost use lib.ListN.{length, getD, take, drop, replicate};
+ghost use Rattle.buffer.specs.Buffer.{put};
 ghost use Rattle.md5.specs.Md5 as Md5;
 ghost use Rattle.md5.specs.Md5.{
   _⊞_,
@@ -298,22 +298,10 @@ fn process(data: &[u8], t: [u32; 64], w: State) -> State
     v
 }
 
-// Copies src to the front of dst.
-fn copy(src: &[u8], dst: &mut [u8])
-    requires { ⌜ length (now src) ≤ length (now dst) ⌝ }
-    ensures { λ _. ⌜ now (dst .exit) ≡ now (src .entry) ++ drop (length (now (src .entry))) (now (dst .entry)) ⌝ }
-{
-    let mut i = 0;
-    while i < src.len() {
-        dst[i] = src[i];
-        i += 1;
-    }
-}
-
 // Stores the four bytes of a word, the low-order byte first.
 fn put_word(dst: &mut [u8], at: usize, w: u32)
     requires { ⌜ at + 4 ≤ length (now dst) ⌝ }
-    ensures { λ _. ⌜ now (dst .exit) ≡ take at (now (dst .entry)) ++ bytesOf w ++ drop (at + 4) (now (dst .entry)) ⌝ }
+    ensures { λ _. ⌜ now (dst .exit) ≡ put (now (dst .entry)) at (bytesOf w) ⌝ }
 {
     dst[at] = (w % 256) as u8;
     dst[at + 1] = ((w >> 8) % 256) as u8;
@@ -351,7 +339,7 @@ fn pad(data: &[u8], tail: &mut [u8]) -> usize
     let rest = data.len() % 64;
     let whole = data.len() - rest;
     let end = tail_end(rest);
-    copy(&data[whole..], tail);
+    buffer::put_bytes(tail, 0, &data[whole..]);
     tail[rest] = 128;
     let bit_len = (data.len() as u64) << 3;
     put_word(tail, end - 8, (bit_len % 0x1_0000_0000) as u32);

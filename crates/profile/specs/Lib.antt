@@ -9,4 +9,4 @@ pub mod ElementsLaws
 pub mod TagTypesLaws
 pub mod PlanLaws
 pub mod LayoutLaws
-pub mod PutsLaws
+pub mod RunsLaws

@@ -9,6 +9,7 @@ use lib.IntN.{ℤ, natAbs}
 use mir.Val.{SFits}
 use mir.Syntax.{w32}
 use Rattle.buffer.specs.All.{All}
+use Rattle.buffer.specs.Ascii.{Ascii}
 use Rattle.profile.specs.declared.Curve.{Curve}
 use Rattle.profile.specs.declared.Curve.the-variants.{Named, Gamma}
 use Rattle.profile.specs.declared.Cicp.{Cicp}
@@ -52,7 +53,7 @@ kind p = kindOf (p .content)
 pub record GoodText (t : List ℕ) : Type 0 where
   pub some-letter : 1 ≤ length t
   pub short : length t ≤ 372
-  pub ascii : All (λ (c : ℕ). c ≤ 127) t
+  pub ascii : Ascii t
 
 abbrev pub GoodCurve : (ℤ → Type 0) → Curve → Type 0
 GoodCurve N (Named n) = Unit {0}

@@ -9,7 +9,7 @@ use Rattle.color_encoding.specs.declared.JxlWhitePoint.{JxlWhitePoint}
 use Rattle.color_encoding.specs.declared.JxlTransferFunction.{JxlTransferFunction}
 use Rattle.color_encoding.specs.declared.JxlColorEncoding.{JxlColorEncoding}
 use Rattle.color_encoding.specs.declared.JxlColorEncoding.the-variants.{RgbColorSpace, GrayscaleColorSpace, XYB}
-use Rattle.decimal.specs.Ascii.{Ascii}
+use Rattle.buffer.specs.Ascii.{Ascii}
 use Rattle.text.specs.Description.{description}
 use Rattle.text.specs.Held.{HeldWhite, HeldTransfer, HeldEncoding, WhiteInRange}
 use Rattle.text.specs.BoundsLaws.{length-white, length-white-in-range, length-rgb, length-gray-text, length-xyb-text, some-rgb, some-gray, some-xyb, ascii-rgb, ascii-gray, ascii-xyb}

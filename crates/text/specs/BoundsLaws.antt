@@ -17,8 +17,9 @@ use Rattle.color_encoding.specs.declared.JxlPrimaries.the-variants as P
 use Rattle.color_encoding.specs.declared.JxlTransferFunction.{JxlTransferFunction}
 use Rattle.color_encoding.specs.declared.JxlTransferFunction.the-variants as F
 use Rattle.color_encoding.specs.Intent.{intentName}
-use Rattle.decimal.specs.Ascii.{Ascii}
-use Rattle.decimal.specs.AsciiLaws.{append, cons, written, ascii-seven}
+use Rattle.buffer.specs.All.{none, more}
+use Rattle.buffer.specs.Ascii.{Ascii}
+use Rattle.decimal.specs.AsciiLaws.{append, written, ascii-seven}
 use Rattle.decimal.specs.Seven.{sevenDecimals}
 use Rattle.decimal.specs.SevenLaws.{length-seven, length-unit, length-positive-unit}
 use Rattle.text.specs.Description.{comma, semicolon, underscore, pair, whiteName, primariesName, transferName, are, rgbText, grayText, xybText, rgbDescription, sRGB, displayP3, rec2100PQ, rec2100HLG}
@@ -165,7 +166,7 @@ some-xyb i = begun 88 89 66 95 (intentName i)
 ascii-pair : (c : ℕ) (x y : Float) → c ≤ 127 → Ascii (pair (c ∷ []) x y)
 unfolding pair
 ascii-pair c x y h =
-    append (sevenDecimals x ++ (c ∷ [])) (sevenDecimals y) (append (sevenDecimals x) (c ∷ []) (ascii-seven x) (cons c [] h (written [] tt))) (ascii-seven y)
+    append (sevenDecimals x ++ (c ∷ [])) (sevenDecimals y) (append (sevenDecimals x) (c ∷ []) (ascii-seven x) (more h none)) (ascii-seven y)
 
 ascii-white : (w : JxlWhitePoint) → Ascii (whiteName w)
 unfolding whiteName
@@ -195,7 +196,7 @@ ascii-transfer F.SRGB = written (83 ∷ 82 ∷ 71 ∷ []) tt
 ascii-transfer F.PQ = written (80 ∷ 101 ∷ 81 ∷ []) tt
 ascii-transfer F.DCI = written (68 ∷ 67 ∷ 73 ∷ []) tt
 ascii-transfer F.HLG = written (72 ∷ 76 ∷ 71 ∷ []) tt
-ascii-transfer (F.Gamma g) = cons 103 (sevenDecimals g) (lit≤ tt) (ascii-seven g)
+ascii-transfer (F.Gamma g) = more (lit≤ tt) (ascii-seven g)
 
 ascii-intent : (i : RenderingIntent) → Ascii (intentName i)
 ascii-intent Perceptual = written (80 ∷ 101 ∷ 114 ∷ []) tt

@@ -15,7 +15,7 @@ ghost use Prim.Native.Nat.{_+_, _-_, _≤_};
 ghost use lib.Dec.{eqb};
 ghost use lib.ListN.{length, replicate};
 ghost use Rattle.color_encoding.specs.Intent.{intentNumber, intentName};
-ghost use Rattle.decimal.specs.Puts.{Puts};
+ghost use Rattle.buffer.specs.Puts.{Puts};
 ghost use Rattle.decimal.specs.Seven.{sevenDecimals};
 ghost use Rattle.text.specs.Held.{Held, HeldWhite, HeldPrimaries, HeldTransfer, InRange, WhiteInRange, Short};
 ghost use Rattle.text.specs.Description.{pair, whiteName, primariesName, transferName, whiteNumber, primariesNumber, transferNumber, rgbText, grayText, xybText, rgbDescription, description};

@@ -6,7 +6,6 @@ use mathlib.Core.Path.{_≡_, refl}
 use mathlib.Core.Logic.{inl, inr}
 use mathlib.Core.List.{List, [], _∷_}
 use lib.Dec.{lit≤}
-use Rattle.buffer.specs.All.{All, none, more}
 use Rattle.color_encoding.specs.Intent.{intentNumber}
 use Rattle.color_encoding.specs.Coordinates.{whiteXy, primariesXy}
 use Rattle.color_encoding.specs.declared.RenderingIntent.{RenderingIntent}
@@ -17,7 +16,6 @@ use Rattle.color_encoding.specs.declared.JxlPrimaries.{JxlPrimaries}
 use Rattle.color_encoding.specs.declared.JxlPrimaries.the-variants as P
 use Rattle.color_encoding.specs.declared.JxlColorEncoding.{JxlColorEncoding}
 use Rattle.color_encoding.specs.declared.JxlColorEncoding.the-variants.{RgbColorSpace, GrayscaleColorSpace, XYB}
-use Rattle.decimal.specs.Ascii.{Ascii}
 use Rattle.text.specs.Description.{description}
 use Rattle.text.specs.Held.{HeldEncoding, WhiteInRange}
 use Rattle.text.specs.Bounds.{length-in-range, some-letter, ascii-description}
@@ -38,12 +36,8 @@ intent-at-most Relative = lit≤ tt
 intent-at-most Saturation = lit≤ tt
 intent-at-most Absolute = lit≤ tt
 
-each-ascii : (l : List ℕ) → Ascii l → All (λ (c : ℕ). c ≤ 127) l
-each-ascii [] h = none
-each-ascii (c ∷ l) h = more (h 0) (each-ascii l (λ k. h (suc k)))
-
 pub text-good : (e : JxlColorEncoding) → HeldEncoding e → WhiteInRange e → GoodText (description e)
-text-good e h r = record { some-letter = some-letter e; short = length-in-range e h r; ascii = each-ascii (description e) (ascii-description e) }
+text-good e h r = record { some-letter = some-letter e; short = length-in-range e h r; ascii = ascii-description e }
 
 pair-good : (n : CurveName) (w : JxlWhitePoint) (p : JxlPrimaries) → GoodCicp (Named n) (cicpPair w p)
 pair-good n W.D65 P.SRGB = inl refl

@@ -3,7 +3,7 @@
 use native.Mathlib.Omega.{arith}
 use Rattle.decimal.specs.Decimal.{lastDigits}
 use Rattle.decimal.specs.DecimalLaws.{length-last}
-use Rattle.decimal.specs.PutsLaws.{then}
+use Rattle.buffer.specs.PutsLaws.{then}
 use Rattle.decimal.proofs.Split.{split-last}
 use borrow.Author.Needs.{needs}
 use Rattle.decimal.proofs.put_eight.Statement.{statement}

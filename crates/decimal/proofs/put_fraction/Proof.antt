@@ -6,7 +6,7 @@ use native.Mathlib.Nat.{div-le-self, lt-of-le-of-lt}
 use native.Mathlib.Omega.{arith}
 use lib.Ieee.Nearest.{closest}
 use Rattle.decimal.specs.Seven.{withPoint}
-use Rattle.decimal.specs.PutsLaws.{same}
+use Rattle.buffer.specs.PutsLaws.{same}
 use Rattle.decimal.proofs.Rounded.{low, high, vanishes}
 use borrow.Author.Needs.{needs}
 use Rattle.decimal.proofs.put_fraction.Statement.{statement}

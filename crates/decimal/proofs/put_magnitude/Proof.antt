@@ -8,7 +8,7 @@ use native.Mathlib.Omega.{arith}
 use borrow.Author.Tests.{eq-eqb, ne-eqb}
 use lib.Ieee.Nearest.{closest}
 use Rattle.decimal.specs.Seven.{withPoint}
-use Rattle.decimal.specs.PutsLaws.{same}
+use Rattle.buffer.specs.PutsLaws.{same}
 use Rattle.decimal.proofs.Value.{significand, fewer, whole}
 use borrow.Author.Needs.{needs}
 use Rattle.decimal.proofs.put_magnitude.Statement.{statement}

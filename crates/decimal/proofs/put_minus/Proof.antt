@@ -5,7 +5,7 @@ use mathlib.Core.Bool.{Bool, not}
 use lib.Dec.{eqb}
 use borrow.Author.Tests.{eq-eqb, ne-eqb}
 use Rattle.decimal.specs.Seven.{minus}
-use Rattle.decimal.specs.PutsLaws.{same, none, store}
+use Rattle.buffer.specs.PutsLaws.{same, none, store}
 use borrow.Author.Needs.{needs}
 use Rattle.decimal.proofs.put_minus.Statement.{statement}
 use Rattle.decimal.proofs.put_minus.Tie as tie

@@ -5,7 +5,7 @@ use native.Mathlib.Omega.{arith}
 use borrow.Author.Tests.{lt-ltb, le-ltb}
 use Rattle.decimal.specs.Parts.{part}
 use Rattle.decimal.specs.PartsLaws.{part-first, part-next, shown-none, shown-some}
-use Rattle.decimal.specs.PutsLaws.{same, none}
+use Rattle.buffer.specs.PutsLaws.{same, none}
 use borrow.Author.Needs.{needs}
 use Rattle.decimal.proofs.put_part.Statement.{statement}
 use Rattle.decimal.proofs.put_part.Tie as tie

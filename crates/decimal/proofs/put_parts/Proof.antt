@@ -9,8 +9,8 @@ use lib.ListN.{length}
 use Rattle.decimal.specs.Decimal.{digits}
 use Rattle.decimal.specs.Parts.{shown, valueOf}
 use Rattle.decimal.specs.PartsLaws.{next-part, shown-none, shown-some, length-shown}
-use Rattle.decimal.specs.Puts.{Puts}
-use Rattle.decimal.specs.PutsLaws.{same, none}
+use Rattle.buffer.specs.Puts.{Puts}
+use Rattle.buffer.specs.PutsLaws.{same, none}
 use Rattle.decimal.proofs.Doubling.{first, grow, horner, room}
 use borrow.Author.Needs.{needs}
 use Rattle.decimal.proofs.put_parts.Statement.{statement}

@@ -9,7 +9,7 @@ use lib.Dec.{T, eqb, lit≤}
 use lib.ListN.{length}
 use lib.Ieee.{Float, binary32, fits, isNan, toBits}
 use Rattle.decimal.specs.Seven.{minus, sevenDecimals}
-use Rattle.decimal.specs.PutsLaws.{then, same, wrote}
+use Rattle.buffer.specs.PutsLaws.{then, same, wrote}
 use Rattle.decimal.proofs.Value.{equals-itself, nan-text, b-lt, finite-text, infinite-text}
 use borrow.Author.Needs.{needs}
 use Rattle.decimal.proofs.put_seven_decimals.Statement.{statement}

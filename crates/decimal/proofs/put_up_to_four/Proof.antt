@@ -3,7 +3,7 @@
 use native.Mathlib.Omega.{arith}
 use Rattle.decimal.specs.Decimal.{digits}
 use Rattle.decimal.specs.DecimalLaws.{length-digits}
-use Rattle.decimal.specs.PutsLaws.{then}
+use Rattle.buffer.specs.PutsLaws.{then}
 use Rattle.decimal.proofs.Split.{split-digits}
 use borrow.Author.Needs.{needs}
 use Rattle.decimal.proofs.put_up_to_four.Statement.{statement}

@@ -3,7 +3,7 @@
 use native.Mathlib.Omega.{arith}
 use Rattle.decimal.specs.Decimal.{digits}
 use Rattle.decimal.specs.DecimalLaws.{digits-small}
-use Rattle.decimal.specs.PutsLaws.{same, store}
+use Rattle.buffer.specs.PutsLaws.{same, store}
 use Rattle.decimal.proofs.Split.{two-digits}
 use borrow.Author.Needs.{needs}
 use Rattle.decimal.proofs.put_up_to_two.Statement.{statement}

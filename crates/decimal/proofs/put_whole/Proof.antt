@@ -11,7 +11,7 @@ use Rattle.decimal.specs.Decimal.{digits, lastDigits}
 use Rattle.decimal.specs.DecimalLaws.{length-digits}
 use Rattle.decimal.specs.Parts.{valueOf}
 use Rattle.decimal.specs.Seven.{withPoint}
-use Rattle.decimal.specs.PutsLaws.{then}
+use Rattle.buffer.specs.PutsLaws.{then}
 use Rattle.decimal.proofs.Doubling.{top}
 use Rattle.decimal.proofs.Split.{pointed}
 use borrow.Author.Needs.{needs}

@@ -1,7 +1,7 @@
 -- What is put in front of 48 zeros: the law `in-front`.
 -- Assumes nothing.
 use Rattle.decimal.specs.Seven.{sevenDecimals}
-use Rattle.decimal.specs.PutsLaws.{in-front}
+use Rattle.buffer.specs.PutsLaws.{in-front}
 use borrow.Author.Needs.{needs}
 use Rattle.decimal.proofs.seven_decimals.Statement.{statement}
 use Rattle.decimal.proofs.seven_decimals.Tie as tie

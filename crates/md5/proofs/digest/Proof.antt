@@ -3,7 +3,8 @@
 use mathlib.Core.Path.{ap, _∙_}
 use mathlib.Core.List.{List}
 use Prim.Native.Nat.{ℕ}
-use Rattle.md5.proofs.Tail.{put}
+use Rattle.md5.proofs.Tail.{putWord}
+use Rattle.buffer.specs.Buffer.{put}
 use borrow.Author.Needs.{needs}
 use Rattle.md5.proofs.digest.Statement.{statement}
 use Rattle.md5.proofs.digest.Tie as tie
@@ -33,11 +34,12 @@ put-word-requires-4 : tie.Need-put-word-requires-4
 put-word-requires-4 c κs = search needs
 
 returns : tie.Need-returns
+unfolding put
 returns c =
     let w = c .before .before .before .before .before .before .before .before .before .before .before .before .args .w in
-    c .before .put-word4 .ensures ∙ ap (λ (l : List ℕ). put l 12 (w .d))
-    (c .before .before .before .before .put-word3 .ensures ∙ ap (λ (l : List ℕ). put l 8 (w .c))
-    (c .before .before .before .before .before .before .before .put-word2 .ensures ∙ ap (λ (l : List ℕ). put l 4 (w .b))
+    c .before .put-word4 .ensures ∙ ap (λ (l : List ℕ). putWord l 12 (w .d))
+    (c .before .before .before .before .put-word3 .ensures ∙ ap (λ (l : List ℕ). putWord l 8 (w .c))
+    (c .before .before .before .before .before .before .before .put-word2 .ensures ∙ ap (λ (l : List ℕ). putWord l 4 (w .b))
     (c .before .before .before .before .before .before .before .before .before .before .put-word .ensures)))
 
 pub digest-spec : {M : Type 1} → statement M

@@ -6,14 +6,15 @@ use mathlib.Core.List.{List, _++_}
 use Prim.Native.Nat.{ℕ, _+_, _-_, _*_, _/_, _%_, _^_}
 use lib.ListN.{length, take, drop, set, length-take, length-drop, length-set}
 use lib.Seq.{take-all}
-use Rattle.md5.proofs.Tail.{put, tail-is}
+use Rattle.buffer.specs.Buffer.{put}
+use Rattle.md5.proofs.Tail.{putWord, tail-is}
 use borrow.Author.Needs.{needs}
 use Rattle.md5.proofs.pad.Statement.{statement}
 use Rattle.md5.proofs.pad.Tie as tie
 
 -- the tail keeps its length
-length-copied : (c : tie.After-copy) → length (c .copy .last .1 .0) ≡ 128
-length-copied c = c .copy .kept .1 .0 ∙ ap length (c .before .before .before .before .before .before .pre)
+length-copied : (c : tie.After-put-bytes) → length (c .put-bytes .last .0) ≡ 128
+length-copied c = c .put-bytes .kept .0 ∙ ap length (c .before .before .before .before .before .before .pre)
 
 length-first : (c : tie.After-put-word) → length (c .put-word .last .0) ≡ 128
 length-first c = c .put-word .kept .0 ∙ simp length-set (length-copied (c .before .before .before .before))
@@ -24,17 +25,17 @@ sub-whole c = search needs
 tail-end-requires : tie.Need-tail-end-requires
 tail-end-requires c κs = search needs
 
-sub-copy : tie.Need-sub-copy
-sub-copy c = search needs
+sub-put-bytes : tie.Need-sub-put-bytes
+sub-put-bytes c = search needs
 
-part-copy-start : tie.Need-part-copy-start
-part-copy-start c = search needs
+part-put-bytes-start : tie.Need-part-put-bytes-start
+part-put-bytes-start c = search needs
 
-part-copy-end : tie.Need-part-copy-end
-part-copy-end c = search needs
+part-put-bytes-end : tie.Need-part-put-bytes-end
+part-put-bytes-end c = search needs
 
-copy-requires : tie.Need-copy-requires
-copy-requires c κs = simp (length-take, length-drop) (omega (arith, ap length (c .before .before .before .before .before .pre)))
+put-bytes-requires : tie.Need-put-bytes-requires
+put-bytes-requires c κs = simp (length-take, length-drop) (omega (arith, ap length (c .before .before .before .before .before .pre)))
 
 slice-write-tail : tie.Need-slice-write-tail
 slice-write-tail c = omega (arith, length-copied (c .before .before))
@@ -72,9 +73,9 @@ returns c =
     take-all (length m - (length m - length m % 64)) d (omega (arith, length-drop (length m - length m % 64) m)) in (
       omega arith,
       ap (take e)
-          (c .before .before .put-word2 .ensures ∙ ap (λ (l : List ℕ). put l (e - 4) (b / 2 ^ 32))
-          (c .before .before .before .before .before .before .put-word .ensures ∙ ap (λ (l : List ℕ). put (set l (length m % 64) 128) (e - 8) (b % 2 ^ 32))
-          (c .before .before .before .before .before .before .before .before .before .before .copy .ensures ∙ ap₂ (λ (x y : List ℕ). x ++ drop (length x) y) part (s .pre))))
+          (c .before .before .put-word2 .ensures ∙ ap (λ (l : List ℕ). putWord l (e - 4) (b / 2 ^ 32))
+          (c .before .before .before .before .before .before .put-word .ensures ∙ ap (λ (l : List ℕ). putWord (set l (length m % 64) 128) (e - 8) (b % 2 ^ 32))
+          (c .before .before .before .before .before .before .before .before .before .before .put-bytes .ensures .1 ∙ ap₂ (λ (x y : List ℕ). put y 0 x) part (s .pre))))
           ∙ tail-is m e h,
     )
 
@@ -84,10 +85,10 @@ pad-spec =
     (tie.spec
     sub-whole
     tail-end-requires
-    sub-copy
-    part-copy-start
-    part-copy-end
-    copy-requires
+    sub-put-bytes
+    part-put-bytes-start
+    part-put-bytes-end
+    put-bytes-requires
     slice-write-tail
     sub-put-word
     cast-put-word

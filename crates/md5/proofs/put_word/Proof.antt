@@ -1,8 +1,8 @@
--- `md5::put_word` meets its contract: four stores, one behind the other, by the law `stores`.
+-- `md5::put_word` meets its contract: four stores, one behind the other, by the law `four-stores`.
 -- Assumes nothing.
 use native.Mathlib.Omega.{arith}
 use lib.ListN.{length-set}
-use Rattle.md5.proofs.Tail.{stores}
+use Rattle.buffer.specs.BufferLaws.{four-stores}
 use borrow.Author.Needs.{needs}
 use Rattle.md5.proofs.put_word.Statement.{statement}
 use Rattle.md5.proofs.put_word.Tie as tie
@@ -44,7 +44,7 @@ same-length : tie.Need-same-length
 same-length c = search needs
 
 returns : tie.Need-returns
-returns c = stores (c .args .dst .now) (c .args .at) (c .args .w) (c .pre)
+returns c = four-stores (c .args .dst .now) (c .args .at) _ _ _ _ (c .pre)
 
 pub put-word-spec : {M : Type 1} → statement M
 put-word-spec =

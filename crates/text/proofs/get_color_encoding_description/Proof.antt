@@ -1,6 +1,6 @@
 -- What is put in front of 449 zeros: the law `in-front`.
 -- Assumes nothing.
-use Rattle.decimal.specs.PutsLaws.{in-front}
+use Rattle.buffer.specs.PutsLaws.{in-front}
 use borrow.Author.Needs.{needs}
 use Rattle.text.proofs.get_color_encoding_description.Statement.{statement}
 use Rattle.text.proofs.get_color_encoding_description.Tie as tie

@@ -6,7 +6,7 @@ use lib.Dec.{lit≤}
 use Rattle.color_encoding.specs.declared.JxlColorEncoding.{JxlColorEncoding}
 use Rattle.text.specs.Held.{WhiteInRange, Short}
 use Rattle.text.specs.BoundsLaws.{short}
-use Rattle.decimal.specs.PutsLaws.{same}
+use Rattle.buffer.specs.PutsLaws.{same}
 use Rattle.text.specs.Description.{description}
 use borrow.Author.Needs.{needs}
 use Rattle.text.proofs.put_description.Statement.{statement}

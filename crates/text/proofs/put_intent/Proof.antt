@@ -2,7 +2,7 @@
 -- Assumes nothing.
 use mathlib.Core.Path.{ap}
 use mathlib.Core.List.{[], _∷_}
-use Rattle.decimal.specs.PutsLaws.{same, wrote}
+use Rattle.buffer.specs.PutsLaws.{same, wrote}
 use Rattle.color_encoding.specs.Intent.{intentName}
 use borrow.Author.Needs.{needs}
 use Rattle.text.proofs.put_intent.Statement.{statement}

@@ -5,7 +5,7 @@ use mathlib.Core.List.{[], _∷_, _++_}
 use native.Mathlib.Omega.{arith}
 use lib.Dec.{T}
 use lib.Ieee.{binary32, fits}
-use Rattle.decimal.specs.PutsLaws.{then, wrote}
+use Rattle.buffer.specs.PutsLaws.{then, wrote}
 use Rattle.decimal.specs.Seven.{sevenDecimals}
 use Rattle.decimal.specs.SevenLaws.{length-seven}
 use Rattle.text.specs.Description.{pair}

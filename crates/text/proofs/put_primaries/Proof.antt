@@ -4,7 +4,7 @@ use mathlib.Core.Path.{sym, ap, subst}
 use mathlib.Core.List.{[], _∷_}
 use Prim.Native.Nat.{_≤_}
 use lib.ListN.{length}
-use Rattle.decimal.specs.PutsLaws.{same, wrote, then}
+use Rattle.buffer.specs.PutsLaws.{same, wrote, then}
 use Rattle.text.specs.Held.{HeldPrimaries}
 use Rattle.text.specs.Description.{primariesName}
 use native.Mathlib.Omega.{arith}

@@ -5,7 +5,7 @@ use mathlib.Core.Path.{_≡_, sym, _∙_, subst}
 use mathlib.Core.Bool.{Bool, true, false, _&&_}
 use lib.Dec.{eqb, lit≤}
 use Rattle.color_encoding.specs.Intent.{intentNumber}
-use Rattle.decimal.specs.PutsLaws.{same, wrote}
+use Rattle.buffer.specs.PutsLaws.{same, wrote}
 use Rattle.text.specs.Held.{InRange, Short}
 use Rattle.text.specs.BoundsLaws.{short}
 use Rattle.text.specs.Description.{whiteNumber, primariesNumber, transferNumber, rgbDescription, sRGB, displayP3, rec2100PQ, rec2100HLG}

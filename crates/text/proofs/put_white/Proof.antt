@@ -2,7 +2,7 @@
 -- Assumes nothing.
 use mathlib.Core.Path.{sym, ap, subst}
 use mathlib.Core.List.{[], _∷_}
-use Rattle.decimal.specs.PutsLaws.{same, wrote}
+use Rattle.buffer.specs.PutsLaws.{same, wrote}
 use Rattle.text.specs.Held.{HeldWhite}
 use Rattle.text.specs.Description.{whiteName}
 use borrow.Author.Needs.{needs}

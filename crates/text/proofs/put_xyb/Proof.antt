@@ -5,7 +5,7 @@ use mathlib.Core.Path.{refl}
 use mathlib.Core.List.{[], _∷_}
 use native.Mathlib.Omega.{arith}
 use lib.ListN.{length}
-use Rattle.decimal.specs.PutsLaws.{then, wrote}
+use Rattle.buffer.specs.PutsLaws.{then, wrote}
 use Rattle.text.specs.BoundsLaws.{length-xyb-text}
 use Rattle.text.specs.Description.{xybText}
 use borrow.Author.Needs.{needs}

@@ -1,10 +1,10 @@
--- Three runs of fields, one after another, are the header of the kind: the laws `puts` and `header-parts`.
+-- Three runs of fields, one after another, are the header of the kind: the laws `runs` and `header-parts`.
 -- Assumes nothing.
 use mathlib.Core.Path.{ap, _∙_}
 use native.Mathlib.Omega.{arith}
 use borrow.Author.Needs.{needs}
 use Rattle.buffer.specs.Buffer.{put}
-use Rattle.profile.specs.PutsLaws.{there, done, puts}
+use Rattle.profile.specs.RunsLaws.{there, done, runs}
 use Rattle.layout.proofs.HeaderParts.{length-first-fields, length-date-and-platform, length-last-fields, header-parts}
 use Rattle.layout.proofs.header.create_icc_header.Statement.{statement}
 use Rattle.layout.proofs.header.create_icc_header.Tie as tie
@@ -27,7 +27,7 @@ returns c k classed spaced =
     let s2 = s3 .before .before .before .before in
     let s1 = s2 .before .before .before .before in
     let start = s1 .before .before .before in
-    puts
+    runs
     (there (length-first-fields _ _ _ (omega arith) (omega arith)) (s1 .put-first-fields .ensures)
     (there length-date-and-platform (s2 .put-date-and-platform .ensures)
     (there length-last-fields (s3 .put-last-fields .ensures)

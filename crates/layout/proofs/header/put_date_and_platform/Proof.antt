@@ -1,10 +1,10 @@
--- The fields, one after another: the law `puts`.
+-- The fields, one after another: the law `runs`.
 -- Assumes nothing.
 use mathlib.Core.Path.{refl}
 use native.Mathlib.Omega.{arith}
 use borrow.Author.Needs.{needs}
 use Rattle.numbers.specs.Words.{be16}
-use Rattle.profile.specs.PutsLaws.{there, done, puts}
+use Rattle.profile.specs.RunsLaws.{there, done, runs}
 use Rattle.layout.proofs.header.put_date_and_platform.Statement.{statement}
 use Rattle.layout.proofs.header.put_date_and_platform.Tie as tie
 
@@ -38,7 +38,7 @@ returns c =
     let s3 = s4 .before .before .before .before in
     let s2 = s3 .before .before .before .before in
     let s1 = s2 .before .before .before .before in
-    puts
+    runs
     (there refl (s1 .put-u16-be .ensures .1)
     (there refl (s2 .put-u16-be2 .ensures .1)
     (there refl (s3 .put-u16-be3 .ensures .1)

@@ -1,11 +1,11 @@
--- The fields, one after another: the law `puts`.
+-- The fields, one after another: the law `runs`.
 -- Assumes nothing.
 use mathlib.Core.Path.{refl}
 use native.Mathlib.Omega.{arith}
 use borrow.Author.Needs.{needs}
 use Rattle.numbers.specs.Words.{be32, twosComplement32}
 use Rattle.profile.specs.TagTypes.{join, s15Fixed16s}
-use Rattle.profile.specs.PutsLaws.{there, done, puts}
+use Rattle.profile.specs.RunsLaws.{there, done, runs}
 use Rattle.layout.proofs.header.put_last_fields.Statement.{statement}
 use Rattle.layout.proofs.header.put_last_fields.Tie as tie
 
@@ -39,7 +39,7 @@ returns c =
     let s3 = s4 .before .before .before .before in
     let s2 = s3 .before .before .before .before in
     let s1 = s2 .before .before .before .before in
-    puts
+    runs
     (there refl (s1 .put-zeros .ensures .1)
     (there refl (s2 .put-u32-be .ensures .1)
     (there refl (s3 .put-u32-be2 .ensures .1)

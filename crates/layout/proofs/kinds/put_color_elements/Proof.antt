@@ -1,10 +1,10 @@
--- The elements, one after another: the laws `puts` and `color-elements`.
+-- The elements, one after another: the laws `runs` and `color-elements`.
 -- Assumes nothing.
 use mathlib.Core.Path.{ap, _∙_}
 use native.Mathlib.Omega.{arith}
 use borrow.Author.Needs.{needs}
 use Rattle.buffer.specs.Buffer.{put}
-use Rattle.profile.specs.PutsLaws.{next, done, puts}
+use Rattle.profile.specs.RunsLaws.{next, done, runs}
 use Rattle.profile.specs.TagTypesLaws.{length-padded-xyz, length-padded-curve}
 use Rattle.layout.proofs.KindParts.{color-elements}
 use Rattle.layout.proofs.kinds.put_color_elements.Statement.{statement}
@@ -60,7 +60,7 @@ returns c =
     let s1 = s2 .before .before .before .before .before .before in
     let start = s1 .before .before .before .before .before in (
       omega arith,
-      puts
+      runs
           (next (length-padded-xyz _) (s1 .create-icc-xyz-tag .ensures)
           (next (length-padded-xyz _) (s2 .create-icc-xyz-tag2 .ensures)
           (next (length-padded-xyz _) (s3 .create-icc-xyz-tag3 .ensures)

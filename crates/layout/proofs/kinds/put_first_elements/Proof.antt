@@ -1,11 +1,11 @@
--- The elements, one after another: the laws `puts` and `first-elements`.
+-- The elements, one after another: the laws `runs` and `first-elements`.
 -- Assumes nothing.
 use mathlib.Core.Path.{ap, _∙_}
 use native.Mathlib.Omega.{arith}
 use lib.ListN.{length}
 use borrow.Author.Needs.{needs}
 use Rattle.buffer.specs.Buffer.{put}
-use Rattle.profile.specs.PutsLaws.{next, done, puts}
+use Rattle.profile.specs.RunsLaws.{next, done, runs}
 use Rattle.profile.specs.TagTypesLaws.{length-padded-mluc, length-padded-xyz}
 use Rattle.layout.proofs.KindParts.{cprt-size, first-size, first-elements}
 use Rattle.layout.proofs.kinds.put_first_elements.Statement.{statement}
@@ -42,7 +42,7 @@ returns c =
     let s1 = s2 .before .before .before .before .before in
     let start = s1 .before .before .before .before in (
       omega (arith, cprt-size, first-size (length (start .args .text .now))),
-      puts
+      runs
           (next (length-padded-mluc _) (s1 .create-icc-mluc-tag .ensures)
           (next (length-padded-mluc _) (s2 .create-icc-mluc-tag2 .ensures)
           (next (length-padded-xyz _) (s3 .create-icc-xyz-tag .ensures)

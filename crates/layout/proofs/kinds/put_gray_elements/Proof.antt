@@ -1,4 +1,4 @@
--- The elements, one after another: the laws `puts` and `gray-elements`.
+-- The elements, one after another: the laws `runs` and `gray-elements`.
 -- Assumes nothing.
 use mathlib.Core.Path.{refl, ap, _∙_}
 use native.Mathlib.Omega.{arith}
@@ -7,7 +7,7 @@ use mir.Syntax.{w32}
 use mir.ValLaws.{toZ-ofZ}
 use borrow.Author.Needs.{needs}
 use Rattle.buffer.specs.Buffer.{put}
-use Rattle.profile.specs.PutsLaws.{next, done, puts}
+use Rattle.profile.specs.RunsLaws.{next, done, runs}
 use Rattle.profile.specs.TagTypesLaws.{length-padded-curve}
 use Rattle.profile.specs.Shape.{slotsOf, isGamma}
 use Rattle.layout.proofs.KindParts.{length-first, gray-elements}
@@ -35,7 +35,7 @@ returns c =
     let s2 = c .before .before in
     let s1 = s2 .before .before .before .before in
     let start = s1 .before .before .before .before in
-    puts
+    runs
     (next (length-first (start .args .text .now) _ refl) (s1 .put-first-elements .ensures)
     (next (length-padded-curve (start .args .curve)) (s2 .put-curve .ensures)
     done)) (omega (arith, start .pre)) .1

@@ -1,11 +1,11 @@
--- The elements, one after another: the laws `puts` and `rgb-elements`.
+-- The elements, one after another: the laws `runs` and `rgb-elements`.
 -- Assumes nothing.
 use mathlib.Core.Path.{refl, ap, _∙_}
 use native.Mathlib.Omega.{arith}
 use lib.ListN.{length}
 use borrow.Author.Needs.{needs}
 use Rattle.buffer.specs.Buffer.{put}
-use Rattle.profile.specs.PutsLaws.{next, done, puts}
+use Rattle.profile.specs.RunsLaws.{next, done, runs}
 use Rattle.profile.specs.TagTypesLaws.{length-padded-sf32}
 use Rattle.profile.specs.Shape.{slotsOf, isGamma, hasCicp}
 use Rattle.layout.proofs.KindParts.{length-first, length-cicp-element, length-colors, rgb-elements}
@@ -50,7 +50,7 @@ returns c =
     let s2 = s3 .before .before .before .before in
     let s1 = s2 .before .before .before .before .before in
     let start = s1 .before .before .before .before in
-    puts
+    runs
     (next (length-first (start .args .text .now) _ refl) (s1 .put-first-elements .ensures)
     (next (length-padded-sf32 _) (s2 .create-icc-chad-tag .ensures)
     (next (length-cicp-element (start .args .curve) (start .args .cicp)) (s3 .create-icc-cicp-tag-data .ensures)

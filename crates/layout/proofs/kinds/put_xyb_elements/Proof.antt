@@ -1,4 +1,4 @@
--- The elements, one after another: the laws `puts` and `xyb-elements`.
+-- The elements, one after another: the laws `runs` and `xyb-elements`.
 -- Assumes nothing.
 use mathlib.Core.Path.{_≡_, refl, ap, _∙_}
 use native.Mathlib.Omega.{arith}
@@ -6,7 +6,7 @@ use lib.ListN.{length}
 use borrow.Author.Needs.{needs}
 use Rattle.buffer.specs.Buffer.{put}
 use Rattle.xyb_constants.specs.XybNumbersLaws.{length-chad}
-use Rattle.profile.specs.PutsLaws.{next, done, puts}
+use Rattle.profile.specs.RunsLaws.{next, done, runs}
 use Rattle.profile.specs.TagTypesLaws.{length-padded-sf32, length-padded-a2b0, length-padded-b2a0}
 use Rattle.layout.proofs.KindParts.{length-first, xyb-sizes, xyb-elements}
 use Rattle.layout.proofs.kinds.put_xyb_elements.Statement.{statement}
@@ -51,7 +51,7 @@ returns c =
     let s2 = s3 .before .before .before .before in
     let s1 = s2 .before .before .before .before .before in
     let start = s1 .before .before .before .before .before in
-    puts
+    runs
     (next (length-first _ _ refl) (s1 .put-first-elements .ensures)
     (next (length-padded-sf32 _) (s2 .create-icc-chad-tag .ensures)
     (next length-padded-a2b0 (s3 .create-icc-lut-atob-tag-for-xyb .ensures)

@@ -8,7 +8,7 @@ use borrow.Author.Needs.{needs}
 use Rattle.buffer.specs.Buffer.{put}
 use Rattle.profile.specs.Elements.{tagCount, entries, entriesBytes}
 use Rattle.profile.specs.Shape.{cicpSlot, hasCicp}
-use Rattle.profile.specs.PutsLaws.{put-nothing}
+use Rattle.buffer.specs.BufferLaws.{put-nothing}
 use Rattle.layout.proofs.table.put_cicp_tag.Statement.{statement}
 use Rattle.layout.proofs.table.put_cicp_tag.Tie as tie
 

@@ -1,11 +1,11 @@
--- The lines, one after another: the laws `puts` and `color-tags`.
+-- The lines, one after another: the laws `runs` and `color-tags`.
 -- Assumes nothing.
 use mathlib.Core.Path.{refl, ap, _∙_}
 use native.Mathlib.Omega.{arith}
 use borrow.Author.Needs.{needs}
 use Rattle.buffer.specs.Buffer.{put}
 use Rattle.buffer.specs.All.{none, more}
-use Rattle.profile.specs.PutsLaws.{next, done, puts}
+use Rattle.profile.specs.RunsLaws.{next, done, runs}
 use Rattle.profile.specs.ElementsLaws.{length-entryBytes, length-entriesBytes}
 use Rattle.profile.specs.Elements.{entries}
 use Rattle.layout.proofs.TableParts.{color-tags}
@@ -45,7 +45,7 @@ returns c =
     let s1 = s2 .before .before .before .before .before .before in
     let start = s1 .before .before .before .before .before in (
       omega arith,
-      puts
+      runs
           (next (length-entryBytes _ refl) (s1 .put-tag .ensures)
           (next (length-entryBytes _ refl) (s2 .put-tag2 .ensures)
           (next (length-entryBytes _ refl) (s3 .put-tag3 .ensures)

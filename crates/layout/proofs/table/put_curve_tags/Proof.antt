@@ -1,9 +1,9 @@
--- The lines, one after another: the law `puts`.
+-- The lines, one after another: the law `runs`.
 -- Assumes nothing.
 use mathlib.Core.Path.{refl}
 use native.Mathlib.Omega.{arith}
 use borrow.Author.Needs.{needs}
-use Rattle.profile.specs.PutsLaws.{next, done, puts}
+use Rattle.profile.specs.RunsLaws.{next, done, runs}
 use Rattle.profile.specs.ElementsLaws.{length-entryBytes}
 use Rattle.profile.specs.Elements.{entries, entriesBytes}
 use Rattle.profile.specs.TagTypes.{join}
@@ -29,7 +29,7 @@ returns c =
     let s2 = s3 .before .before .before .before .before .before in
     let s1 = s2 .before .before .before .before .before .before in (
       omega arith,
-      puts
+      runs
           (next (length-entryBytes _ refl) (s1 .put-tag .ensures)
           (next (length-entryBytes _ refl) (s2 .put-tag2 .ensures)
           (next (length-entryBytes _ refl) (s3 .put-tag3 .ensures)

@@ -1,11 +1,11 @@
--- The count and the lines, one after another: the laws `puts` and `first-tags`.
+-- The count and the lines, one after another: the laws `runs` and `first-tags`.
 -- Assumes nothing.
 use mathlib.Core.Path.{refl, ap, _∙_}
 use native.Mathlib.Omega.{arith}
 use borrow.Author.Needs.{needs}
 use Rattle.numbers.specs.Words.{be32}
 use Rattle.buffer.specs.Buffer.{put}
-use Rattle.profile.specs.PutsLaws.{next, done, puts}
+use Rattle.profile.specs.RunsLaws.{next, done, runs}
 use Rattle.profile.specs.Elements.{padding}
 use Rattle.profile.specs.ElementsLaws.{length-entryBytes}
 use Rattle.layout.proofs.TableParts.{first-tags}
@@ -56,7 +56,7 @@ returns c =
     let s1 = s2 .before .before .before .before .before .before .before in
     let start = s1 .before .before .before .before in (
       omega arith,
-      puts
+      runs
           (next refl (s1 .put-u32-be .ensures)
           (next (length-entryBytes _ refl) (s2 .put-tag .ensures)
           (next (length-entryBytes _ refl) (s3 .put-tag2 .ensures)

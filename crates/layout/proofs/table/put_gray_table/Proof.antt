@@ -1,10 +1,10 @@
--- The first lines and the last one: the laws `puts` and `gray-table`.
+-- The first lines and the last one: the laws `runs` and `gray-table`.
 -- Assumes nothing.
 use mathlib.Core.Path.{refl, ap, _∙_}
 use native.Mathlib.Omega.{arith}
 use borrow.Author.Needs.{needs}
 use Rattle.buffer.specs.Buffer.{put}
-use Rattle.profile.specs.PutsLaws.{next, done, puts}
+use Rattle.profile.specs.RunsLaws.{next, done, runs}
 use Rattle.profile.specs.ElementsLaws.{length-entryBytes}
 use Rattle.profile.specs.Shape.{slotsOf, isGamma}
 use Rattle.layout.proofs.TableParts.{length-first-tags, gray-table}
@@ -33,7 +33,7 @@ returns c =
     let s1 = s2 .before .before .before .before .before .before .before .before in
     let start = s1 .before .before .before in (
       omega arith,
-      puts
+      runs
           (next (length-first-tags 4 _) (s1 .put-first-tags .ensures)
           (next (length-entryBytes _ refl) (s2 .put-tag .ensures)
           done)) (omega (arith, start .pre)) .1

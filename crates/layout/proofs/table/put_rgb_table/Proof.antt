@@ -1,11 +1,11 @@
--- The first lines, and those of `chad`, `cicp` and the colors: the laws `puts` and `rgb-table`.
+-- The first lines, and those of `chad`, `cicp` and the colors: the laws `runs` and `rgb-table`.
 -- Assumes nothing.
 use Prim.Native.Nat.{ℕ, _+_}
 use mathlib.Core.Path.{refl, ap, _∙_}
 use native.Mathlib.Omega.{arith}
 use borrow.Author.Needs.{needs}
 use Rattle.buffer.specs.Buffer.{put}
-use Rattle.profile.specs.PutsLaws.{next, done, puts}
+use Rattle.profile.specs.RunsLaws.{next, done, runs}
 use Rattle.profile.specs.ElementsLaws.{length-entryBytes}
 use Rattle.profile.specs.Shape.{slotsOf, isGamma, hasCicp}
 use Rattle.layout.proofs.TableParts.{length-first-tags, length-cicp-tags, length-color-tags, small, rgb-table}
@@ -87,7 +87,7 @@ returns c =
     let s1 = s2 .before .before .before .before .before .before in
     let start = s1 .before .before .before .before .before in (
       omega (arith, small (start .args .letters) (isGamma (start .args .curve)) (hasCicp (start .args .cicp)) (start .pre .0)),
-      puts
+      runs
           (next (length-first-tags _ _) (s1 .put-first-tags .ensures)
           (next (length-entryBytes _ refl) (s2 .put-tag .ensures)
           (next (length-cicp-tags _ (hasCicp (start .args .cicp))) (s3 .put-cicp-tag .ensures)

@@ -1,10 +1,10 @@
--- Signature, offset and size, one after another: the law `puts`.
+-- Signature, offset and size, one after another: the law `runs`.
 -- Assumes nothing.
 use mathlib.Core.Path.{refl}
 use native.Mathlib.Omega.{arith}
 use borrow.Author.Needs.{needs}
 use Rattle.numbers.specs.Words.{be32}
-use Rattle.profile.specs.PutsLaws.{next, done, puts}
+use Rattle.profile.specs.RunsLaws.{next, done, runs}
 use Rattle.profile.specs.Elements.{entryBytes}
 use Rattle.profile.specs.TagTypes.{join}
 use Rattle.layout.proofs.table.put_tag.Statement.{statement}
@@ -29,7 +29,7 @@ returns c =
     let s2 = s3 .before .before .before .before in
     let s1 = s2 .before .before .before .before in (
       omega arith,
-      puts
+      runs
           (next (omega (arith, s1 .before .before .before .good)) (s1 .write-icc-tag .ensures)
           (next refl (s2 .put-u32-be .ensures)
           (next refl (s3 .put-u32-be2 .ensures)

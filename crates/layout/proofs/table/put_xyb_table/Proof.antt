@@ -1,11 +1,11 @@
--- The first lines and the last three: the laws `puts` and `xyb-table`.
+-- The first lines and the last three: the laws `runs` and `xyb-table`.
 -- Assumes nothing.
 use mathlib.Core.Path.{refl, ap, _∙_}
 use mathlib.Core.Bool.{false}
 use native.Mathlib.Omega.{arith}
 use borrow.Author.Needs.{needs}
 use Rattle.buffer.specs.Buffer.{put}
-use Rattle.profile.specs.PutsLaws.{next, done, puts}
+use Rattle.profile.specs.RunsLaws.{next, done, runs}
 use Rattle.profile.specs.ElementsLaws.{length-entryBytes}
 use Rattle.profile.specs.Shape.{slotsOf}
 use Rattle.layout.proofs.TableParts.{length-first-tags, small, xyb-table}
@@ -48,7 +48,7 @@ returns c =
     let s1 = s2 .before .before .before .before .before .before in
     let start = s1 .before .before .before .before in (
       omega (arith, s1 .put-first-tags .ensures .0, s2 .put-tag .ensures .0, s3 .put-tag2 .ensures .0, s4 .put-tag3 .ensures .0),
-      puts
+      runs
           (next (length-first-tags 6 7) (s1 .put-first-tags .ensures)
           (next (length-entryBytes _ refl) (s2 .put-tag .ensures)
           (next (length-entryBytes _ refl) (s3 .put-tag2 .ensures)

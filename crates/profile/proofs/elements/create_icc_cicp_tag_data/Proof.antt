@@ -11,7 +11,7 @@ use Rattle.profile.specs.Elements.{body, bodySize, padding}
 use Rattle.profile.specs.TagTypes.{join, zeros, cicp}
 use Rattle.profile.specs.Layout.{cicpElement}
 use Rattle.profile.specs.Shape.{cicpSlot, hasCicp}
-use Rattle.profile.specs.PutsLaws.{put-nothing}
+use Rattle.buffer.specs.BufferLaws.{put-nothing}
 use Rattle.profile.specs.TagTypesLaws.{cicp-whole}
 use Rattle.profile.specs.Signatures as Sig
 use Rattle.profile.proofs.elements.create_icc_cicp_tag_data.Statement.{statement}

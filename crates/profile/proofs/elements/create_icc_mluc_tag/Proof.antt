@@ -1,4 +1,4 @@
--- Record, text and padding, one after another, are the padded element: the laws `puts` and `mluc-parts`.
+-- Record, text and padding, one after another, are the padded element: the laws `runs` and `mluc-parts`.
 -- Assumes nothing.
 use mathlib.Core.Path.{ap, _∙_}
 use native.Mathlib.Omega.{arith}
@@ -6,7 +6,7 @@ use lib.ListN.{length-replicate}
 use borrow.Author.Needs.{needs}
 use Rattle.numbers.specs.Words.{be32}
 use Rattle.buffer.specs.Buffer.{put}
-use Rattle.profile.specs.PutsLaws.{next, done, puts}
+use Rattle.profile.specs.RunsLaws.{next, done, runs}
 use Rattle.profile.specs.TagTypesLaws.{length-utf16}
 use Rattle.profile.proofs.Parts.{mluc-parts, length-record}
 use Rattle.profile.proofs.elements.create_icc_mluc_tag.Statement.{statement}
@@ -44,7 +44,7 @@ returns c =
     let s1 = s2 .before .before .before .before in
     let start = s1 .before .before .before .before in (
       omega arith,
-      puts
+      runs
           (next (length-record _) (s1 .put-mluc-record .ensures)
           (next (length-utf16 _) (s2 .put-utf16 .ensures)
           (next (length-replicate _ _) (s3 .put-zeros .ensures)

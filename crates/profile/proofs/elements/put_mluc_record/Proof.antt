@@ -1,10 +1,10 @@
--- The parts of the record, one after another: the law `puts`.
+-- The parts of the record, one after another: the law `runs`.
 -- Assumes nothing.
 use mathlib.Core.Path.{refl}
 use native.Mathlib.Omega.{arith}
 use borrow.Author.Needs.{needs}
 use Rattle.numbers.specs.Words.{be32}
-use Rattle.profile.specs.PutsLaws.{next, done, puts}
+use Rattle.profile.specs.RunsLaws.{next, done, runs}
 use Rattle.profile.proofs.elements.put_mluc_record.Statement.{statement}
 use Rattle.profile.proofs.elements.put_mluc_record.Tie as tie
 
@@ -43,7 +43,7 @@ returns c =
     let s2 = s3 .before .before .before .before in
     let s1 = s2 .before .before .before .before in (
       omega arith,
-      puts
+      runs
           (next refl (s1 .write-icc-tag .ensures)
           (next refl (s2 .put-u32-be .ensures)
           (next refl (s3 .put-u32-be2 .ensures)

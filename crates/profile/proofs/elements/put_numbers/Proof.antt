@@ -1,11 +1,11 @@
--- The parts, one after another: the law `puts`.
+-- The parts, one after another: the law `runs`.
 -- Assumes nothing.
 use mathlib.Core.Path.{refl}
 use native.Mathlib.Omega.{arith}
 use borrow.Author.Needs.{needs}
 use Rattle.numbers.specs.Words.{be32}
 use Rattle.profile.specs.TagTypesLaws.{length-s15Fixed16s}
-use Rattle.profile.specs.PutsLaws.{next, done, puts}
+use Rattle.profile.specs.RunsLaws.{next, done, runs}
 use Rattle.profile.proofs.elements.put_numbers.Statement.{statement}
 use Rattle.profile.proofs.elements.put_numbers.Tie as tie
 
@@ -29,7 +29,7 @@ returns c =
     let tag = zeros .before .before .before .before in
     let start = tag .before .before .before in (
       omega arith,
-      puts (next (omega arith) (tag .write-icc-tag .ensures) (next refl (zeros .put-u32-be .ensures) (next (length-s15Fixed16s _) (values .put-s15-fixed-16s .ensures) done))) (omega arith) .1,
+      runs (next (omega arith) (tag .write-icc-tag .ensures) (next refl (zeros .put-u32-be .ensures) (next (length-s15Fixed16s _) (values .put-s15-fixed-16s .ensures) done))) (omega arith) .1,
     )
 
 pub put-numbers-spec : {M : Type 1} → statement M

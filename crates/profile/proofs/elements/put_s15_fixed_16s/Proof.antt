@@ -13,7 +13,7 @@ use borrow.Author.Needs.{needs}
 use Rattle.numbers.specs.Words.{be32, twosComplement32}
 use Rattle.buffer.specs.Buffer.{put}
 use Rattle.profile.specs.TagTypes.{s15Fixed16s}
-use Rattle.profile.specs.PutsLaws.{put-nothing}
+use Rattle.buffer.specs.BufferLaws.{put-nothing}
 use Rattle.profile.proofs.Loops.{s15-grown}
 use Rattle.profile.proofs.elements.put_s15_fixed_16s.Statement.{statement}
 use Rattle.profile.proofs.elements.put_s15_fixed_16s.Tie as tie

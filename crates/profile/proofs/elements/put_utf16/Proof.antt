@@ -9,7 +9,7 @@ use borrow.Author.Needs.{needs}
 use Rattle.buffer.specs.Buffer.{put}
 use Rattle.buffer.specs.BufferLaws.{two-stores}
 use Rattle.profile.specs.TagTypes.{utf16}
-use Rattle.profile.specs.PutsLaws.{put-nothing}
+use Rattle.buffer.specs.BufferLaws.{put-nothing}
 use Rattle.profile.proofs.Loops.{utf16-grown}
 use Rattle.profile.proofs.elements.put_utf16.Statement.{statement}
 use Rattle.profile.proofs.elements.put_utf16.Tie as tie

@@ -9,7 +9,7 @@ use borrow.Author.Needs.{needs}
 use Rattle.buffer.specs.Buffer.{put}
 use Rattle.buffer.specs.BufferLaws.{one-store}
 use Rattle.profile.specs.TagTypes.{zeros}
-use Rattle.profile.specs.PutsLaws.{put-nothing}
+use Rattle.buffer.specs.BufferLaws.{put-nothing}
 use Rattle.profile.proofs.Loops.{zeros-grown}
 use Rattle.profile.proofs.elements.put_zeros.Statement.{statement}
 use Rattle.profile.proofs.elements.put_zeros.Tie as tie

@@ -1,4 +1,4 @@
--- The parts of `a2b0`, one after another: the laws `puts` and `a2b0-parts`.
+-- The parts of `a2b0`, one after another: the laws `runs` and `a2b0-parts`.
 -- Assumes nothing.
 use mathlib.Core.Path.{_≡_, refl, ap, _∙_}
 use native.Mathlib.Omega.{arith}
@@ -6,7 +6,7 @@ use lib.ListN.{length}
 use borrow.Author.Needs.{needs}
 use Rattle.buffer.specs.Buffer.{put}
 use Rattle.xyb_constants.specs.XybNumbersLaws.{length-matrix}
-use Rattle.profile.specs.PutsLaws.{next, done, puts}
+use Rattle.profile.specs.RunsLaws.{next, done, runs}
 use Rattle.profile.specs.TagTypesLaws.{length-identityCurves, length-clut, length-mCurves, length-s15Fixed16s}
 use Rattle.profile.proofs.XybParts.{length-offsets, a2b0-parts}
 use Rattle.profile.proofs.xyb.create_icc_lut_atob_tag_for_xyb.Statement.{statement}
@@ -46,7 +46,7 @@ returns c =
     let start = s1 .before .before .before .before .before .before in
     let count : length (s1 .before .before .before .before .matrix .result) ≡ 12 = ap length (s1 .before .before .before .before .matrix .ensures) ∙ length-matrix in (
       omega (arith, s5 .put-s15-fixed-16s .ensures .0),
-      puts
+      runs
           (next (length-offsets _ 244 148 80 32 refl) (s1 .put-offsets .ensures)
           (next length-identityCurves (s2 .put-identity-curves .ensures)
           (next length-clut (s3 .put-clut .ensures)

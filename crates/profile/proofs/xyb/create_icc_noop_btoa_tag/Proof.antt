@@ -1,10 +1,10 @@
--- The parts of `b2a0`, one after another: the laws `puts` and `b2a0-parts`.
+-- The parts of `b2a0`, one after another: the laws `runs` and `b2a0-parts`.
 -- Assumes nothing.
 use mathlib.Core.Path.{refl, ap, _∙_}
 use native.Mathlib.Omega.{arith}
 use borrow.Author.Needs.{needs}
 use Rattle.buffer.specs.Buffer.{put}
-use Rattle.profile.specs.PutsLaws.{next, done, puts}
+use Rattle.profile.specs.RunsLaws.{next, done, runs}
 use Rattle.profile.specs.TagTypesLaws.{length-identityCurves}
 use Rattle.profile.proofs.XybParts.{length-offsets, b2a0-parts}
 use Rattle.profile.proofs.xyb.create_icc_noop_btoa_tag.Statement.{statement}
@@ -25,7 +25,7 @@ returns c =
     let s1 = s2 .before .before .before .before in
     let start = s1 .before .before .before .before .before in (
       omega arith,
-      puts
+      runs
           (next (length-offsets _ 0 0 0 0 refl) (s1 .put-offsets .ensures)
           (next length-identityCurves (s2 .put-identity-curves .ensures)
           done)) (omega arith) .1

@@ -1,4 +1,4 @@
--- The parts of the CLUT, one after another: the laws `puts` and `clut-parts`.
+-- The parts of the CLUT, one after another: the laws `runs` and `clut-parts`.
 -- Assumes nothing.
 use mathlib.Core.Path.{_≡_, refl, ap, _∙_}
 use native.Mathlib.Omega.{arith}
@@ -7,7 +7,7 @@ use borrow.Author.Needs.{needs}
 use Rattle.numbers.specs.Words.{be16, be32}
 use Rattle.buffer.specs.Buffer.{put}
 use Rattle.xyb_constants.specs.XybNumbersLaws.{length-clut}
-use Rattle.profile.specs.PutsLaws.{next, done, puts}
+use Rattle.profile.specs.RunsLaws.{next, done, runs}
 use Rattle.profile.specs.TagTypesLaws.{length-uInt16s}
 use Rattle.profile.proofs.XybParts.{clut-parts}
 use Rattle.profile.proofs.xyb.put_clut.Statement.{statement}
@@ -48,7 +48,7 @@ returns c =
     let start = s1 .before .before .before .before in
     let count : length (s1 .before .before .clut .result) ≡ 24 = ap length (s1 .before .before .clut .ensures) ∙ length-clut in (
       omega (arith, s5 .put-u16s .ensures .0),
-      puts
+      runs
           (next refl (s1 .put-u16-be .ensures)
           (next refl (s2 .put-byte .ensures)
           (next refl (s3 .put-zeros .ensures)

@@ -1,10 +1,10 @@
--- Three curves, one after another: the law `puts`.
+-- Three curves, one after another: the law `runs`.
 -- Assumes nothing.
 use native.Mathlib.Omega.{arith}
 use borrow.Author.Needs.{needs}
 use Rattle.profile.specs.Xyb.{identityCurves}
 use Rattle.profile.specs.TagTypesLaws.{length-para}
-use Rattle.profile.specs.PutsLaws.{next, done, puts}
+use Rattle.profile.specs.RunsLaws.{next, done, runs}
 use Rattle.profile.proofs.xyb.put_identity_curves.Statement.{statement}
 use Rattle.profile.proofs.xyb.put_identity_curves.Tie as tie
 
@@ -36,7 +36,7 @@ returns c =
     let s2 = s3 .before .before .before .before .before in
     let s1 = s2 .before .before .before .before .before in (
       omega arith,
-      puts
+      runs
           (next (length-para 0 _) (s1 .create-icc-curv-para-tag .ensures)
           (next (length-para 0 _) (s2 .create-icc-curv-para-tag2 .ensures)
           (next (length-para 0 _) (s3 .create-icc-curv-para-tag3 .ensures)

@@ -1,10 +1,10 @@
--- Three curves, one after another, of five numbers each: the laws `puts` and `m-curves`.
+-- Three curves, one after another, of five numbers each: the laws `runs` and `m-curves`.
 -- Assumes nothing.
 use mathlib.Core.Path.{ap, _∙_}
 use native.Mathlib.Omega.{arith}
 use borrow.Author.Needs.{needs}
 use Rattle.buffer.specs.Buffer.{put}
-use Rattle.profile.specs.PutsLaws.{next, done, puts}
+use Rattle.profile.specs.RunsLaws.{next, done, runs}
 use Rattle.profile.specs.TagTypesLaws.{length-para}
 use Rattle.profile.proofs.XybParts.{m-curves}
 use Rattle.profile.proofs.xyb.put_m_curves.Statement.{statement}
@@ -59,7 +59,7 @@ returns c =
     let s1 = s2 .before .before .before .before .before .before in
     let start = s1 .before .before .before .before .before .before in (
       omega arith,
-      puts
+      runs
           (next (length-para 3 _) (s1 .create-icc-curv-para-tag .ensures)
           (next (length-para 3 _) (s2 .create-icc-curv-para-tag2 .ensures)
           (next (length-para 3 _) (s3 .create-icc-curv-para-tag3 .ensures)

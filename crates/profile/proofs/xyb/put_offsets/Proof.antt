@@ -1,10 +1,10 @@
--- The parts of the first 32 bytes, one after another: the law `puts`.
+-- The parts of the first 32 bytes, one after another: the law `runs`.
 -- Assumes nothing.
 use mathlib.Core.Path.{refl}
 use native.Mathlib.Omega.{arith}
 use borrow.Author.Needs.{needs}
 use Rattle.numbers.specs.Words.{be32}
-use Rattle.profile.specs.PutsLaws.{next, done, puts}
+use Rattle.profile.specs.RunsLaws.{next, done, runs}
 use Rattle.profile.proofs.xyb.put_offsets.Statement.{statement}
 use Rattle.profile.proofs.xyb.put_offsets.Tie as tie
 
@@ -48,7 +48,7 @@ returns c =
     let s1 = s2 .before .before .before .before in
     let start = s1 .before .before .before in (
       omega (arith, s1 .write-icc-tag .ensures .0, s2 .put-u32-be .ensures .0, s3 .put-u32-be2 .ensures .0, s4 .put-u32-be3 .ensures .0, s5 .put-u32-be4 .ensures .0, s6 .put-u32-be5 .ensures .0, s7 .put-u32-be6 .ensures .0, s8 .put-u32-be7 .ensures .0),
-      puts
+      runs
           (next (omega (arith, start .good)) (s1 .write-icc-tag .ensures)
           (next refl (s2 .put-u32-be .ensures)
           (next refl (s3 .put-u32-be2 .ensures)

@@ -8,7 +8,7 @@ use lib.Seq.{take-all}
 use borrow.Author.Needs.{needs}
 use Rattle.buffer.specs.Buffer.{put}
 use Rattle.profile.specs.TagTypes.{uInt16s}
-use Rattle.profile.specs.PutsLaws.{put-nothing}
+use Rattle.buffer.specs.BufferLaws.{put-nothing}
 use Rattle.profile.proofs.Loops.{u16-grown}
 use Rattle.profile.proofs.xyb.put_u16s.Statement.{statement}
 use Rattle.profile.proofs.xyb.put_u16s.Tie as tie

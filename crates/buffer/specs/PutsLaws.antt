@@ -5,10 +5,10 @@ use mathlib.Core.Path.{_≡_, refl, sym, ap, _∙_}
 use mathlib.Core.List.{List, [], _∷_, _++_}
 use native.Mathlib.Nat.{add-zero, zero-add}
 use native.Mathlib.Omega.{arith}
-use lib.ListN.{length, take, drop, set, replicate, length-append, take-append-drop}
+use lib.ListN.{length, drop, set, replicate, length-append}
 use Rattle.buffer.specs.Buffer.{put}
-use Rattle.buffer.specs.BufferLaws.{put-put, one-store}
-use Rattle.decimal.specs.Puts.{Puts}
+use Rattle.buffer.specs.BufferLaws.{put-nothing, put-put, one-store}
+use Rattle.buffer.specs.Puts.{Puts}
 
 -- q and then r are one run
 pub then : {l m o q r : List ℕ} {at i j : ℕ} (s : List ℕ) → at ≤ length l → Puts l at q i m → Puts m i r j o → s ≡ q ++ r → Puts l at s j o
@@ -24,8 +24,7 @@ same s a e = rw e a
 
 -- nothing written
 pub none : (l : List ℕ) (at : ℕ) → Puts l at [] at l
-unfolding put
-none l at = record { place = sym (add-zero at); bytes = sym (ap (λ (n : ℕ). take at l ++ drop n l) (add-zero at) ∙ take-append-drop at l) }
+none l at = record { place = sym (add-zero at); bytes = sym (put-nothing l at) }
 
 -- as a call of `put_bytes` leaves it
 pub wrote : (l : List ℕ) (at : ℕ) (q : List ℕ) {r : ℕ} {o : List ℕ} → (r ≡ at + length q) × (o ≡ put l at q) → Puts l at q r o
