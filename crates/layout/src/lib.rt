@@ -1,7 +1,7 @@
 // The layout of a plan into a lent slice: header, tag table, elements and id, as `maybe_create_profile` of api/color.rs writes them.
-mod header;
+pub mod header;
 mod kinds;
-mod table;
+pub mod table;
 
 ghost use mathlib.Core.Path.{_≡_};
 ghost use Prim.Native.Nat.{_≤_};

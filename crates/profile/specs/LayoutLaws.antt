@@ -37,14 +37,14 @@ header-blanked isGray v r h = rw (append-assoc (v .id) (zeros 28 ++ []) r, drop-
 header-blanked isRgb v r h = rw (append-assoc (v .id) (zeros 28 ++ []) r, drop-at (v .id) (zeros 28 ++ [] ++ r) 16 h) (simp append-nil)
 header-blanked isXyb v r h = rw (append-assoc (v .id) (zeros 28 ++ []) r, drop-at (v .id) (zeros 28 ++ [] ++ r) 16 h) (simp append-nil)
 
-header-put-intent : (k : Kind) (n i j : ℕ) (d r : List ℕ)
+pub header-put-intent : (k : Kind) (n i j : ℕ) (d r : List ℕ)
     → put (Layout.header k (record { size = n; intent = i; id = d }) ++ r) 64 (be32 j) ≡ Layout.header k (record { size = n; intent = j; id = d }) ++ r
 unfolding put Layout.header join s15Fixed16s be16 be32
 header-put-intent isGray n i j d r = refl
 header-put-intent isRgb n i j d r = refl
 header-put-intent isXyb n i j d r = refl
 
-header-put-id : (k : Kind) (n i : ℕ) (d e r : List ℕ) → length d ≡ 16 → length e ≡ 16
+pub header-put-id : (k : Kind) (n i : ℕ) (d e r : List ℕ) → length d ≡ 16 → length e ≡ 16
     → put (Layout.header k (record { size = n; intent = i; id = d }) ++ r) 84 e ≡ Layout.header k (record { size = n; intent = i; id = e }) ++ r
 unfolding put Layout.header join s15Fixed16s be16 be32
 header-put-id isGray n i d e r h g = rw (g, append-assoc d (zeros 28 ++ []) r, drop-at d (zeros 28 ++ [] ++ r) 16 h) (simp append-assoc)

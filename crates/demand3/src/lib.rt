@@ -1,0 +1,1 @@
+// Demand 3 of 01 is in specs/. There is no code here.

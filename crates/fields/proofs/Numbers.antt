@@ -1,0 +1,30 @@
+-- One number after another, by place. Assumes nothing.
+use Prim.Native.Nat.{ℕ, zero, suc, _+_, _*_, _^_, _<_}
+use mathlib.Core.Path.{_≡_, refl, ap, _∙_}
+use mathlib.Core.List.{List, [], _∷_, _++_}
+use native.Mathlib.Omega.{arith}
+use native.Mathlib.Nat.{add-assoc}
+use lib.IntN.{ℤ}
+use lib.Signed.{mag}
+use lib.ListN.{drop}
+use lib.Seq.{drop-drop}
+use mir.Syntax.{w32}
+use mir.Val.{toZ, ofZ, hbits}
+use mir.ValLaws.{toZ-ofZ}
+use borrow.Author.Needs.{sfits-of}
+use Rattle.reading.specs.Recover.{numberIn, numbersFrom}
+
+-- a number that a call gave, as it is held
+pub held : {z n : ℤ} → mag z < 2 ^ hbits w32 → z ≡ n → toZ w32 (ofZ w32 z) ≡ n
+held {z} h e = toZ-ofZ w32 z (sfits-of h) ∙ e
+
+pub numbers-snoc : (n : ℕ) (l : List ℕ) → numbersFrom (suc n) l ≡ numbersFrom n l ++ (numberIn (drop (4 * n) l) ∷ [])
+unfolding numbersFrom
+numbers-snoc zero l = refl
+numbers-snoc (suc n) l =
+    let next : 4 + 4 * n ≡ 4 * suc n = omega arith in
+    ap (λ (zs : List ℤ). numberIn l ∷ zs) (numbers-snoc n (drop 4 l) ∙ rw (drop-drop (4 * n) 4 l, next))
+
+pub three : (i : ℕ) (l : List ℕ) → numbersFrom 3 (drop i l) ≡ numberIn (drop i l) ∷ numberIn (drop (i + 4) l) ∷ numberIn (drop (i + 8) l) ∷ []
+unfolding numbersFrom
+three i l = simp (drop-drop, add-assoc)

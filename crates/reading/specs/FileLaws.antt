@@ -1,0 +1,197 @@
+-- What reading the regions of a plan's file gives, under any id; and that no two plans share a file. Assumes nothing.
+use Prim.Native.Nat.{ℕ, _+_, _*_, _^_, _≤_, _<_}
+use mathlib.Core.Path.{_≡_, refl, ap, sym, _∙_}
+use mathlib.Core.List.{List, [], _∷_, _++_, map, append-assoc}
+use native.Mathlib.Omega.{arith}
+use lib.IntN.{ℤ, pos, negsuc}
+use lib.ListN.{length, take, drop}
+use lib.Seq.{take-at}
+use mir.Syntax.{w32}
+use mir.Val.{SFits}
+use Rattle.numbers.specs.Words.{be16, be32, word32}
+use Rattle.numbers.specs.WordsLaws.{word32-be32}
+use Rattle.buffer.specs.All.{All, none, more}
+use Rattle.md5.specs.Md5.{md5}
+use Rattle.profile.specs.Elements.{start, tagCount, table, entries, body, file, fileLength}
+use Rattle.profile.specs.ElementsLaws.{Fours}
+use Rattle.profile.specs.Plan.{Plan, Content, gray, rgb, xyb, Kind, isGray, isRgb, isXyb, kind, GoodCurve, GoodContent, GoodIntent, Good, InRange, Valid, Wide}
+use Rattle.profile.specs.PlanLaws.{good-nines, slots-shape}
+use Rattle.profile.specs.Shape.{Shape, shape, slotsOf}
+use Rattle.profile.specs.TagTypes.{join, zeros, s15Fixed16s}
+use Rattle.profile.specs.Layout.{Varying, header, elements, slots, withId, blanked, profileId, layout}
+use Rattle.profile.specs.LayoutLaws.{length-header, plan-fours, length-id, length-layout, layout-bounds, blanked-withId}
+use Rattle.profile.specs.declared.Curve.{Curve}
+use Rattle.profile.specs.declared.Curve.the-variants.{Named, Gamma}
+use Rattle.reading.specs.Table.{varyingOf, tagsOf, tableOf, bodyOf, entriesOf}
+use Rattle.reading.specs.TableLaws.{contents, tags-file, table-file, drop-start, body-file, entries-file, contents-file}
+use Rattle.reading.specs.Recover.{kindFrom, shapeIn, partsOf, contentFrom, recover}
+use Rattle.reading.specs.RecoverLaws.{content-back, shape-back}
+
+-- ---- the header
+
+-- numbers that their four bytes hold, and sixteen bytes of id
+pub record Fits (v : Varying) : Type 0 where
+  pub size : v .size < 2 ^ 32
+  pub intent : v .intent < 2 ^ 32
+  pub id : length (v .id) ≡ 16
+
+-- once the kind is known a header computes, up to its id
+header-intent : (k : Kind) (v : Varying) (r : List ℕ) → v .intent < 2 ^ 32 → word32 (drop 64 (header k v ++ r)) ≡ v .intent
+unfolding header join s15Fixed16s be16 be32
+header-intent isGray v r h = word32-be32 (v .intent) _ h
+header-intent isRgb v r h = word32-be32 (v .intent) _ h
+header-intent isXyb v r h = word32-be32 (v .intent) _ h
+
+header-from-id : (k : Kind) (v : Varying) (r : List ℕ) → drop 84 (header k v ++ r) ≡ v .id ++ (zeros 28 ++ r)
+unfolding header join s15Fixed16s be16 be32
+header-from-id isGray v r = append-assoc (v .id) (zeros 28) r
+header-from-id isRgb v r = append-assoc (v .id) (zeros 28) r
+header-from-id isXyb v r = append-assoc (v .id) (zeros 28) r
+
+header-id : (k : Kind) (v : Varying) (r : List ℕ) → length (v .id) ≡ 16 → take 16 (drop 84 (header k v ++ r)) ≡ v .id
+header-id k v r h = rw (header-from-id k v r) (take-at (v .id) _ 16 h)
+
+header-size : (k : Kind) (v : Varying) (r : List ℕ) → v .size < 2 ^ 32 → word32 (header k v ++ r) ≡ v .size
+unfolding header join
+header-size k v r h = rw (append-assoc (be32 (v .size))) (word32-be32 (v .size) _ h)
+
+pub header-varying : (k : Kind) (v : Varying) (r : List ℕ) → Fits v → varyingOf (header k v ++ r) ≡ v
+unfolding varyingOf
+header-varying k v r h = λ i. record { size = header-size k v r (h .size) i; intent = header-intent k v r (h .intent) i; id = header-id k v r (h .id) i }
+
+pub header-kind : (k : Kind) (v : Varying) (r : List ℕ) → kindFrom (header k v ++ r) ≡ k
+unfolding header join be32 kindFrom
+header-kind isGray v r = refl
+header-kind isRgb v r = refl
+header-kind isXyb v r = refl
+
+-- ---- a plan's file, under any id
+
+-- what its header says, in a file of n bytes
+abbrev pub varying : ℕ → List ℕ → Plan → Varying
+varying n id p = record { size = n; intent = p .intent; id = id }
+
+intent-small : (k : Kind) (i : ℕ) → GoodIntent k i → i < 2 ^ 32
+intent-small isGray i h = omega arith
+intent-small isRgb i h = omega arith
+intent-small isXyb i h = omega arith
+
+module _ (N : ℤ → Type 0) (p : Plan) (g : Good N p) where
+  pub fours : Fours (slots p)
+  fours = plan-fours p (good-nines N (p .content) (g .content))
+
+  -- its length, by the elements themselves
+  pub length-slots : length (layout p) ≡ fileLength (slots p)
+  length-slots =
+      let nines = good-nines N (p .content) (g .content) in
+      length-layout p nines ∙ ap fileLength (sym (slots-shape p nines))
+
+  pub small : fileLength (slots p) < 2 ^ 32
+  small = omega (arith, layout-bounds N p g, length-slots)
+
+module _ (N : ℤ → Type 0) (p : Plan) (g : Good N p) (id : List ℕ) (sixteen : length id ≡ 16) where
+  says : Fits (varying (fileLength (slots p)) id p)
+  says = record { size = small N p g; intent = intent-small (kind p) (p .intent) (g .intent); id = sixteen }
+
+  pub header-128 : length (header (kind p) (varying (fileLength (slots p)) id p)) ≡ 128
+  header-128 = length-header (kind p) _ sixteen
+
+  pub tags-withId : tagsOf (withId id p) ≡ tagCount (slots p)
+  unfolding withId
+  tags-withId = tags-file _ (elements p) header-128 (fours N p g) (small N p g)
+
+  pub table-withId : tableOf (withId id p) ≡ table (slots p)
+  unfolding withId
+  table-withId = table-file _ (elements p) header-128 (fours N p g) (small N p g)
+
+  pub entries-withId : entriesOf (withId id p) ≡ entries (start (slots p)) (slots p)
+  unfolding withId
+  entries-withId = entries-file _ (elements p) header-128 (fours N p g) (small N p g)
+
+  pub drop-withId : drop (start (slots p)) (withId id p) ≡ body (elements p)
+  unfolding withId
+  drop-withId = drop-start _ (elements p) header-128 (fours N p g) (small N p g)
+
+  pub body-withId : bodyOf (withId id p) ≡ body (elements p)
+  unfolding withId
+  body-withId = body-file _ (elements p) header-128 (fours N p g) (small N p g)
+
+  pub parts-withId : partsOf (withId id p) ≡ contents (elements p)
+  unfolding withId partsOf
+  parts-withId = contents-file _ (elements p) header-128 (fours N p g) (small N p g)
+
+  pub varying-withId : varyingOf (withId id p) ≡ varying (fileLength (slots p)) id p
+  unfolding withId file
+  varying-withId = header-varying (kind p) _ _ says
+
+  pub kind-withId : kindFrom (withId id p) ≡ kind p
+  unfolding withId file
+  kind-withId = header-kind (kind p) _ _
+
+  pub shape-withId : shapeIn (withId id p) ≡ shape p
+  unfolding shapeIn
+  shape-withId =
+      rw (kind-withId, entries-withId, slots-shape p (good-nines N (p .content) (g .content))) (shape-back _ (p .content))
+
+-- ---- the way back
+
+pub recover-withId : (p : Plan) → Wide p → (id : List ℕ) → length id ≡ 16 → recover (withId id p) ≡ p
+unfolding recover elements
+recover-withId p g id h =
+    let s : Shape = shapeIn (withId id p) in
+    let c : contentFrom (s .kind) (s .gamma) (s .cicp) (partsOf (withId id p)) ≡ p .content =
+    rw (shape-withId (SFits w32) p g id h, parts-withId (SFits w32) p g id h) (content-back (p .content) (g .content))
+    in
+    λ i. record { intent = varying-withId (SFits w32) p g id h i .intent; content = c i }
+
+pub recover-layout : (p : Plan) → Wide p → recover (layout p) ≡ p
+unfolding layout
+recover-layout p g = recover-withId p g _ (length-id _)
+
+pub layout-injective : (p q : Plan) → Wide p → Wide q → layout p ≡ layout q → p ≡ q
+layout-injective p q g h e = sym (recover-layout p g) ∙ ap recover e ∙ recover-layout q h
+
+-- the id and the size in a plan's file are those of that file
+pub id-layout : (p : Plan) → Wide p → varyingOf (layout p) .id ≡ profileId (layout p)
+unfolding layout profileId
+id-layout p g =
+    ap (λ v. v .id) (varying-withId (SFits w32) p g _ (length-id _))
+    ∙ ap md5 (blanked-withId p (zeros 16) refl ∙ sym (blanked-withId p _ (length-id _)))
+
+pub size-layout : (p : Plan) → Wide p → varyingOf (layout p) .size ≡ length (layout p)
+size-layout p g = size ∙ sym (length-slots (SFits w32) p g)
+  where
+    size : varyingOf (layout p) .size ≡ fileLength (slots p)
+    size = unfold layout in ap (λ v. v .size) (varying-withId (SFits w32) p g _ (length-id _))
+
+-- ---- a valid plan's numbers are signed 32-bit numbers
+
+in-range-fits : (z : ℤ) → InRange z → SFits w32 z
+in-range-fits (pos n) h = record { sfits = omega arith }
+in-range-fits (negsuc n) h = record { sfits = omega arith }
+
+All-weaken : {A : Type 0} {P Q : A → Type 0} {l : List A} → ((a : A) → P a → Q a) → All P l → All Q l
+All-weaken f none = none
+All-weaken f (more {a = a} h hs) = more (f a h) (All-weaken f hs)
+
+module _ (M N : ℤ → Type 0) (f : (z : ℤ) → M z → N z) where
+  curve-weaken : (c : Curve) → GoodCurve M c → GoodCurve N c
+  curve-weaken (Named n) h = h
+  curve-weaken (Gamma g) h = f g h
+
+  content-weaken : (c : Content) → GoodContent M c → GoodContent N c
+  content-weaken (gray t c x z) h = record { text = h .text; curve = curve-weaken c (h .curve); white-x = f x (h .white-x); white-z = f z (h .white-z) }
+  content-weaken (rgb t c m k v) h =
+      record {
+        text = h .text;
+        curve = curve-weaken c (h .curve);
+        chad-nine = h .chad-nine;
+        chad = All-weaken f (h .chad);
+        columns-nine = h .columns-nine;
+        columns = All-weaken f (h .columns);
+        cicp = h .cicp;
+      }
+  content-weaken xyb h = h
+
+pub valid-wide : (p : Plan) → Valid p → Wide p
+valid-wide p v = record { intent = v .intent; content = content-weaken InRange (SFits w32) in-range-fits (p .content) (v .content) }

@@ -1,0 +1,105 @@
+-- A plan of each shape. Assumes nothing.
+use Prim.Native.Nat.{ℕ, zero, suc, _≤_}
+use mathlib.Core.Path.{_≡_, refl, _∙_}
+use mathlib.Core.Logic.{inl}
+use mathlib.Core.Bool.{Bool, true, false}
+use mathlib.Core.List.{List}
+use native.Mathlib.Omega.{arith}
+use lib.IntN.{pos}
+use lib.ListN.{length, replicate, length-replicate}
+use Rattle.buffer.specs.All.{All, none, more}
+use Rattle.profile.specs.Plan.{Plan, Content, gray, rgb, xyb, Kind, isGray, isRgb, isXyb, kindOf, GoodText, GoodCurve, GoodCicp, GoodContent, GoodIntent, InRange, Valid}
+use Rattle.profile.specs.PlanLaws.{NotBoth, GoodShape, good-nines, slots-shape}
+use Rattle.profile.specs.Layout.{slots}
+use Rattle.profile.specs.Shape.{Shape, shapeOf, slotsFor, slotsOf}
+use Rattle.profile.specs.declared.CurveName.the-variants.{SRGB}
+use Rattle.profile.specs.declared.Curve.{Curve}
+use Rattle.profile.specs.declared.Curve.the-variants.{Named, Gamma}
+use Rattle.profile.specs.declared.Cicp.{Cicp}
+use Rattle.profile.specs.declared.Cicp.the-variants.{Absent, Primaries}
+
+abbrev curveFor : Bool → Curve
+curveFor true = Gamma (pos 0)
+curveFor false = Named SRGB
+
+abbrev cicpFor : Bool → Cicp
+cicpFor true = Primaries 1
+cicpFor false = Absent
+
+abbrev contentFor : Kind → ℕ → Bool → Bool → Content
+contentFor isGray n g v = gray (replicate n 65) (curveFor g) (pos 0) (pos 0)
+contentFor isRgb n g v = rgb (replicate n 65) (curveFor g) (replicate 9 (pos 0)) (replicate 9 (pos 0)) (cicpFor v)
+contentFor isXyb n g v = xyb
+
+-- a text of A's, every number zero
+abbrev pub plain : Shape → Plan
+plain s = record { intent = 0; content = contentFor (s .kind) (s .letters) (s .gamma) (s .cicp) }
+
+all-same : {A : Type 0} (P : A → Type 0) (n : ℕ) (a : A) → P a → All P (replicate n a)
+all-same P zero a h = none
+all-same P (suc n) a h = more h (all-same P n a h)
+
+good-text : (n : ℕ) → 1 ≤ n → n ≤ 372 → GoodText (replicate n 65)
+good-text n p q = record { some-letter = rw length-replicate p; short = rw length-replicate q; ascii = all-same (λ (c : ℕ). c ≤ 127) n 65 (omega arith) }
+
+zero-in-range : InRange (pos 0)
+zero-in-range = omega arith
+
+good-curve : (g : Bool) → GoodCurve InRange (curveFor g)
+good-curve true = zero-in-range
+good-curve false = tt
+
+good-cicp : (g v : Bool) → NotBoth v g → GoodCicp (curveFor g) (cicpFor v)
+good-cicp true true r = r
+good-cicp false true r = inl refl
+good-cicp g false r = tt
+
+good-content : (k : Kind) (n : ℕ) (g v : Bool) → 1 ≤ n → n ≤ 372 → NotBoth v g → GoodContent InRange (contentFor k n g v)
+good-content isGray n g v p q r = record { text = good-text n p q; curve = good-curve g; white-x = zero-in-range; white-z = zero-in-range }
+good-content isRgb n g v p q r =
+    record {
+      text = good-text n p q;
+      curve = good-curve g;
+      chad-nine = refl;
+      chad = all-same InRange 9 (pos 0) zero-in-range;
+      columns-nine = refl;
+      columns = all-same InRange 9 (pos 0) zero-in-range;
+      cicp = good-cicp g v r;
+    }
+good-content isXyb n g v p q r = tt
+
+good-intent : (k : Kind) (n : ℕ) (g v : Bool) → GoodIntent (kindOf (contentFor k n g v)) 0
+good-intent isGray n g v = omega arith
+good-intent isRgb n g v = omega arith
+good-intent isXyb n g v = refl
+
+pub plain-valid : (s : Shape) → GoodShape s → Valid (plain s)
+plain-valid s g =
+    record {
+      intent = good-intent (s .kind) (s .letters) (s .gamma) (s .cicp);
+      content = good-content (s .kind) (s .letters) (s .gamma) (s .cicp) (g .some-letter) (g .short) (g .pair);
+    }
+
+kind-for : (k : Kind) (n : ℕ) (g v : Bool) → kindOf (contentFor k n g v) ≡ k
+kind-for isGray n g v = refl
+kind-for isRgb n g v = refl
+kind-for isXyb n g v = refl
+
+pub plain-kind : (s : Shape) → kindOf (plain s .content) ≡ s .kind
+plain-kind s = kind-for (s .kind) (s .letters) (s .gamma) (s .cicp)
+
+slots-for : (k : Kind) (n : ℕ) (g v : Bool) → slotsOf (shapeOf (contentFor k n g v)) ≡ slotsFor k n g v
+unfolding slotsOf
+slots-for isGray n true v = simp length-replicate
+slots-for isGray n false v = simp length-replicate
+slots-for isRgb n true true = simp length-replicate
+slots-for isRgb n true false = simp length-replicate
+slots-for isRgb n false true = simp length-replicate
+slots-for isRgb n false false = simp length-replicate
+slots-for isXyb n g v = refl
+
+pub plain-slots : (s : Shape) → GoodShape s → slots (plain s) ≡ slotsOf s
+unfolding slotsOf
+plain-slots s g =
+    slots-shape (plain s) (good-nines InRange (plain s .content) (plain-valid s g .content))
+    ∙ slots-for (s .kind) (s .letters) (s .gamma) (s .cicp)
