@@ -1,9 +1,11 @@
 // The reader: the one plan that lays out to a file, id included, or the first refusal.
+pub mod finder;
 mod gray;
 mod rgb;
 mod xyb;
 
 use fields::Kind;
+pub use finder::find;
 use profile::Curve;
 use profile::CurveName;
 ghost use mathlib.Core.Path.{_≡_};

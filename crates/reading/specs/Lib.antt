@@ -16,6 +16,7 @@ pub mod Tests
 pub mod TestsLaws
 pub mod Finder
 pub mod FinderLaws
+pub mod LinesLaws
 pub mod Steps
 pub mod StepsLaws
 pub mod PartsLaws

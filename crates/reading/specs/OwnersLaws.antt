@@ -33,7 +33,7 @@ unfolding pad
 pad-at at n h = (omega arith, omega arith)
 
 -- every place is within, and starts at a multiple of 4
-place-bounds : (at : ℕ) (ss : List Slot) → at % 4 ≡ 0 → (s : Span) → In s (places at ss)
+pub place-bounds : (at : ℕ) (ss : List Slot) → at % 4 ≡ 0 → (s : Span) → In s (places at ss)
     → (at ≤ s .offset) × (s .offset % 4 ≡ 0) × (paddedEnd s ≤ at + bodySize ss)
 unfolding places bodySize
 place-bounds at [] h s m = absurd m
@@ -107,7 +107,7 @@ lines-split : (at : ℕ) (x : Slot) (ss : List Slot) → map span (entries at (x
 unfolding entries
 lines-split at x ss = map-append span (map (entry at (x .size)) (x .signatures)) (entries (next at x) ss)
 
-lines-places : (at : ℕ) (ss : List Slot) (s : Span) → In s (map span (entries at ss)) → In s (places at ss)
+pub lines-places : (at : ℕ) (ss : List Slot) (s : Span) → In s (map span (entries at ss)) → In s (places at ss)
 unfolding entries places
 lines-places at [] s h = h
 lines-places at (x ∷ ss) s h =

@@ -1,5 +1,5 @@
-// Replays the fixed list on standard input and counts, for each type of record, how many were tried and how many were matched. Then tries
-// the examples of 01 that are run.
+// Replays the fixed list on standard input and counts, for each type of record, how many were tried and how many were matched. Each profile
+// that was written is read back too. Then tries the examples of 01 that are run.
 // The list holds the Rust's own answers and RFC 1321's vectors; differential/README.md says how it was made and what a record holds.
 mod examples;
 mod hex;

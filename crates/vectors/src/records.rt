@@ -301,12 +301,47 @@ fn answered(line: &[u8], e: JxlColorEncoding) -> bool {
     described(line, e) && written(line, e)
 }
 
-// The length of the profile and its MD5, or the refusal.
+// What the reader answers with one byte of the profile changed.
+fn changed(profile: [u8; 1300], n: usize, at: usize) -> u32 {
+    if 1300 < n {
+        return 0;
+    }
+    if n <= at {
+        return 0;
+    }
+    let mut other = profile;
+    other[at] = other[at] ^ 255;
+    let answer = reader::read(&other[..n]);
+    answer.refusal
+}
+
+// The profile is read back as one of its kind, and is refused with a change in its size, header, intent, tag table, first element or id.
+fn read_back(kind: u32, profile: [u8; 1300], n: usize) -> bool {
+    if 1300 < n {
+        return false;
+    }
+    let answer = reader::read(&profile[..n]);
+    if answer.refusal != 0 {
+        return false;
+    }
+    let first = 132 + 12 * ((profile[131] % 16) as usize);
+    answer.kind == kind
+        && changed(profile, n, 3) == 22
+        && changed(profile, n, 20) == 23
+        && changed(profile, n, 67) == 24
+        && changed(profile, n, 143) == 25
+        && changed(profile, n, first) == 26
+        && changed(profile, n, 99) == 28
+}
+
+// The length of the profile and its MD5, or the refusal. What is written is read back.
 fn written(line: &[u8], e: JxlColorEncoding) -> bool {
     let mut out = [0u8; 1300];
     match writer::maybe_create_profile(e, &mut out) {
         Profile::Written(n) => {
-            n as u64 == hex::number(line, 77, 4) && digest_spelled(line, 81, &out, n as usize)
+            n as u64 == hex::number(line, 77, 4)
+                && digest_spelled(line, 81, &out, n as usize)
+                && read_back(digit(line, 0), out, n as usize)
         }
         Profile::Refused(number) => number as u64 == hex::number(line, 77, 4),
     }
