@@ -37,7 +37,7 @@ pub struct Reading {
     pub text: [u8; 372],
 }
 
-pub fn refused(number: u32) -> Reading
+fn refused(number: u32) -> Reading
     ensures { λ r. ⌜ r ≡ refusedWith number ⌝ }
 {
     Reading {
@@ -67,7 +67,7 @@ fn name_number(name: CurveName) -> u32
     }
 }
 
-pub fn curve_number(curve: Curve) -> u32
+fn curve_number(curve: Curve) -> u32
     ensures { λ r. ⌜ r ≡ curveNumber curve ⌝ }
 {
     match curve {
@@ -76,7 +76,7 @@ pub fn curve_number(curve: Curve) -> u32
     }
 }
 
-pub fn gamma_number(curve: Curve) -> i32
+fn gamma_number(curve: Curve) -> i32
     ensures { λ r. ⌜ r ≡ gammaNumber curve ⌝ }
 {
     match curve {
@@ -86,7 +86,7 @@ pub fn gamma_number(curve: Curve) -> i32
 }
 
 // A curve of the size that a table shows: its numbers are not known yet.
-pub fn any_curve(gamma: bool) -> Curve
+fn any_curve(gamma: bool) -> Curve
     ensures { λ r. ⌜ isGamma r ≡ gamma ⌝ }
 {
     if gamma {
@@ -96,7 +96,7 @@ pub fn any_curve(gamma: bool) -> Curve
 }
 
 // Whether the header is that of a class and a space, with the size, the intent and the id that the file states.
-pub fn header_is(
+fn header_is(
     file: &[u8],
     profile_class: [u8; 4],
     data_color_space: [u8; 4],
@@ -118,7 +118,7 @@ pub fn header_is(
 }
 
 // Holds a file against a layout of the same length: elements and padding from a place on, the range of the numbers, the id.
-pub fn against(file: &[u8], laid: &[u8], at: usize, in_range: bool) -> u32
+fn against(file: &[u8], laid: &[u8], at: usize, in_range: bool) -> u32
     requires { ⌜ (100 ≤ length (now file)) × (100 ≤ length (now laid)) × (at ≤ length (now file)) × (at ≤ length (now laid)) ⌝ }
     ensures { λ r. ⌜ r ≡ Against.against (now (file .entry)) (now (laid .entry)) at «in_range» ⌝ }
 {
