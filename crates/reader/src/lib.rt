@@ -96,12 +96,7 @@ fn any_curve(gamma: bool) -> Curve
 }
 
 // Whether the header is that of a class and a space, with the size, the intent and the id that the file states.
-fn header_is(
-    file: &[u8],
-    profile_class: [u8; 4],
-    data_color_space: [u8; 4],
-    intent: u32,
-) -> bool
+fn header_is(file: &[u8], profile_class: [u8; 4], data_color_space: [u8; 4], intent: u32) -> bool
     requires { ⌜ (132 ≤ length (now file)) × (varyingOf (now file) .size ≡ length (now file)) × (intent ≡ varyingOf (now file) .intent) ⌝ }
     ensures { λ r. ⌜ ((k : Plan.Kind) → «profile_class» ≡ class k → «data_color_space» ≡ space k → r ≡ same (take 128 (now (file .entry))) (header k (varyingOf (now (file .entry))))) ⌝ }
 {
