@@ -7,7 +7,7 @@ use native.Mathlib.Nat.{add-zero, add-assoc}
 use native.Mathlib.Omega.{arith}
 use native.Mathlib.Numerals.{add-one, add-two, add-three}
 use lib.ListN.{length, take, drop, set, length-append, length-drop, take-append-drop}
-use lib.Seq.{take-at, drop-drop, length-take-le, take-append-le, drop-append-le, drop-append-add, sets, sets-eq, paste, take-length}
+use lib.Seq.{take-at, drop-drop, length-take-le, drop-append-add, sets, sets-eq, paste, take-length}
 use Rattle.buffer.specs.Buffer.{put}
 
 -- ---- `put`

@@ -18,7 +18,6 @@ use Rattle.profile.specs.Layout.{layout}
 use Rattle.writer.specs.Checked.{Checked, is, refused}
 use Rattle.writer.specs.PlanOf.{planOf}
 use Rattle.writer.specs.Writer.{answer, output}
-use Rattle.writer.specs.declared.Profile.{Profile}
 use Rattle.writer.specs.declared.Profile.the-variants.{Written, Refused}
 use Rattle.writer_laws.specs.PlanValid.{plan-valid}
 use Rattle.reading.specs.Reader.{accepted}

@@ -2,8 +2,6 @@
 -- Assumes nothing.
 use Prim.Native.Nat.{ℕ}
 use mathlib.Core.List.{List}
-use lib.Ieee.{Float}
-use Rattle.color_encoding.specs.Codes.{whitePointFrom, primariesFrom, transferFunctionFrom, intentFrom}
 use Rattle.color_encoding.specs.declared.RenderingIntent.{RenderingIntent}
 use Rattle.color_encoding.specs.declared.JxlWhitePoint.{JxlWhitePoint}
 use Rattle.color_encoding.specs.declared.JxlPrimaries.{JxlPrimaries}

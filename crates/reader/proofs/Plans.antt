@@ -1,6 +1,6 @@
 -- What the reader answers to a file that has the table of the plan that is recovered from it. Assumes nothing.
 use Prim.Native.Nat.{ℕ, _≤_}
-use mathlib.Core.Path.{_≡_, refl, ap, sym, _∙_, subst}
+use mathlib.Core.Path.{_≡_, refl, ap, sym, _∙_}
 use mathlib.Core.Bool.{Bool, true, false, true≢false, _&&_}
 use mathlib.Core.List.{List}
 use native.Mathlib.Omega.{arith}
@@ -8,12 +8,11 @@ use lib.IntN.{ℤ}
 use lib.ListN.{length}
 use mir.Syntax.{w32}
 use mir.Val.{SFits}
-use Rattle.buffer.specs.All.{All}
 use Rattle.profile.specs.Elements.{start, table, fileLength}
 use Rattle.profile.specs.Plan
-use Rattle.profile.specs.Plan.{gray, rgb, grayPlan, rgbPlan}
+use Rattle.profile.specs.Plan.{gray, rgb}
 use Rattle.profile.specs.PlanLaws.{Nines, NotBoth, slots-shape, at-least, at-most}
-use Rattle.profile.specs.Layout.{slots, layout}
+use Rattle.profile.specs.Layout.{layout}
 use Rattle.profile.specs.LayoutLaws.{length-layout}
 use Rattle.profile.specs.Shape.{isGamma, hasCicp, shape, shapeOf, slotsOf}
 use Rattle.profile.specs.declared.Curve.{Curve}

@@ -3,7 +3,7 @@ use Prim.Native.Nat.{ℕ, _-_}
 use mathlib.Core.List.{List, _++_}
 use lib.IntN.{ℤ, pos}
 use lib.ListN.{length, replicate}
-use Rattle.profile.specs.Plan.{Plan, Content, gray, rgb, xyb}
+use Rattle.profile.specs.Plan.{Content, gray, rgb, xyb}
 use Rattle.profile.specs.declared.CurveName.{CurveName}
 use Rattle.profile.specs.declared.CurveName.the-variants as Name
 use Rattle.profile.specs.declared.Curve.{Curve}

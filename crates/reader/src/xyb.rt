@@ -2,7 +2,6 @@
 use crate::Reading;
 ghost use mathlib.Core.Path.{_≡_};
 ghost use mathlib.Core.Bool.{false};
-ghost use lib.ListN.{length};
 ghost use Rattle.profile.specs.Plan.{isXyb, xyb};
 ghost use Rattle.reading.specs.Table.{varyingOf};
 ghost use Rattle.reading.specs.Read.{read, fromTable, fromBody};

@@ -1,11 +1,11 @@
 -- Demand 3, the reader's part. Assumes nothing.
 use Prim.Native.Nat.{ℕ, _+_, _*_, _≤_}
-use mathlib.Core.Path.{_≡_, refl, ap, sym, _∙_, subst}
+use mathlib.Core.Path.{_≡_, refl, subst}
 use mathlib.Core.Logic.{_↔_}
 use mathlib.Core.Bool.{Bool, true, false}
 use mathlib.Core.List.{List, [], _∷_, _++_}
 use native.Mathlib.Omega.{arith}
-use lib.ListN.{length, drop}
+use lib.ListN.{length}
 use Rattle.buffer.specs.All.{All, none, more}
 use Rattle.profile.specs.Elements.{Slot}
 use Rattle.profile.specs.Plan.{Plan, Kind, isGray, isRgb, isXyb, InRange, Valid}
@@ -14,7 +14,7 @@ use Rattle.profile.specs.Layout.{elements, withId, layout}
 use Rattle.profile.specs.LayoutLaws.{length-id, layout-bounds}
 use Rattle.profile.specs.Shape.{shape, slotsFor, slotsOf, one, sized, curveSize, cicpSlot}
 use Rattle.reading.specs.FileLaws.{fours, small, header-128, layout-injective, valid-wide}
-use Rattle.reading.specs.Reader.{Answer, refused, accepted, Answers, refuses, accepts}
+use Rattle.reading.specs.Reader.{Answer, accepted, Answers, refuses, accepts}
 use Rattle.reading.specs.ReaderLaws.{answer-unique}
 use Rattle.reading.specs.Read.{read}
 use Rattle.reading.specs.ReadLaws.{read-answers}

@@ -1,18 +1,18 @@
 -- What the reader answers to a file that is held against its plan's layout. Assumes nothing.
-use Prim.Native.Nat.{ℕ, _+_, _*_, _^_, _≤_, _<_}
+use Prim.Native.Nat.{ℕ, _+_}
 use mathlib.Core.Path.{_≡_, refl, ap, sym, _∙_, subst}
 use mathlib.Core.Bool.{Bool, true, false, cond}
 use mathlib.Core.List.{List, _++_}
 use native.Mathlib.Omega.{arith}
-use lib.ListN.{length, take, drop}
+use lib.ListN.{take, drop}
 use mir.Syntax.{w32}
 use mir.Val.{SFits}
 use Rattle.profile.specs.Elements.{start, table, body}
-use Rattle.profile.specs.Plan.{Plan, kind, GoodContent, GoodIntent, InRange, Wide}
+use Rattle.profile.specs.Plan.{Plan, kind, GoodContent, InRange, Wide}
 use Rattle.profile.specs.Layout.{elements, slots, profileId, layout}
 use Rattle.profile.specs.LayoutLaws.{length-id}
-use Rattle.reading.specs.Table.{varyingOf, tagsOf, bodyOf}
-use Rattle.reading.specs.TableLaws.{tags-are, rest-is}
+use Rattle.reading.specs.Table.{varyingOf, bodyOf}
+use Rattle.reading.specs.TableLaws.{rest-is}
 use Rattle.reading.specs.Recover.{recover}
 use Rattle.reading.specs.FileLaws.{fours, small, drop-withId}
 use Rattle.reading.specs.Reader

@@ -1,7 +1,7 @@
 -- What reading the regions of a plan's file gives, under any id; and that no two plans share a file. Assumes nothing.
-use Prim.Native.Nat.{ℕ, _+_, _*_, _^_, _≤_, _<_}
+use Prim.Native.Nat.{ℕ, _+_, _^_, _<_}
 use mathlib.Core.Path.{_≡_, refl, ap, sym, _∙_}
-use mathlib.Core.List.{List, [], _∷_, _++_, map, append-assoc}
+use mathlib.Core.List.{List, _++_, append-assoc}
 use native.Mathlib.Omega.{arith}
 use lib.IntN.{ℤ, pos, negsuc}
 use lib.ListN.{length, take, drop}
@@ -16,9 +16,9 @@ use Rattle.profile.specs.Elements.{start, tagCount, table, entries, body, file,
 use Rattle.profile.specs.ElementsLaws.{Fours}
 use Rattle.profile.specs.Plan.{Plan, Content, gray, rgb, xyb, Kind, isGray, isRgb, isXyb, kind, GoodCurve, GoodContent, GoodIntent, Good, InRange, Valid, Wide}
 use Rattle.profile.specs.PlanLaws.{good-nines, slots-shape}
-use Rattle.profile.specs.Shape.{Shape, shape, slotsOf}
+use Rattle.profile.specs.Shape.{Shape, shape}
 use Rattle.profile.specs.TagTypes.{join, zeros, s15Fixed16s}
-use Rattle.profile.specs.Layout.{Varying, header, elements, slots, withId, blanked, profileId, layout}
+use Rattle.profile.specs.Layout.{Varying, header, elements, slots, withId, profileId, layout}
 use Rattle.profile.specs.LayoutLaws.{length-header, plan-fours, length-id, length-layout, layout-bounds, blanked-withId}
 use Rattle.profile.specs.declared.Curve.{Curve}
 use Rattle.profile.specs.declared.Curve.the-variants.{Named, Gamma}

@@ -1,10 +1,10 @@
 -- In an accepted file the finder hands back the plan's element. Assumes nothing.
-use Prim.Native.Nat.{ℕ, zero, _+_}
-use mathlib.Core.Path.{_≡_, refl, ap, sym, _∙_, subst}
+use Prim.Native.Nat.{ℕ, _+_}
+use mathlib.Core.Path.{_≡_, refl, _∙_, subst}
 use mathlib.Core.Bool.{Bool, true, false, cond}
 use mathlib.Core.List.{List, [], _∷_, _++_, map}
 use lib.ListN.{length, take, drop}
-use Rattle.profile.specs.Elements.{Entry, Element, Slot, slot, paddedSize, entry, entries, start, body}
+use Rattle.profile.specs.Elements.{Entry, Element, slot, paddedSize, entry, entries, start, body}
 use Rattle.profile.specs.Plan.{Plan, InRange, Valid}
 use Rattle.profile.specs.Layout.{elements, slots, layout}
 use Rattle.profile.specs.LayoutLaws.{length-id}

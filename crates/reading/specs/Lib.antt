@@ -24,3 +24,4 @@ pub mod ShapeLaws
 pub mod Against
 pub mod AgainstLaws
 pub mod BytesLaws
+pub mod Adequate

@@ -3,22 +3,21 @@ use Prim.Native.Nat.{ℕ, zero, suc, _+_, _*_, _-_, _%_, _^_, _≤_, _<_}
 use mathlib.Core.Path.{_≡_, refl, ap, ap₂, sym, _∙_}
 use mathlib.Core.Bool.{Bool, true, false}
 use mathlib.Core.List.{List, [], _∷_, _++_, map}
-use native.Mathlib.Nat.{add-zero, add-assoc}
+use native.Mathlib.Nat.{add-assoc}
 use native.Mathlib.Omega.{arith}
 use lib.IntN.{ℤ}
 use lib.ListN.{length, take, drop, getD, length-drop}
 use lib.Seq.{getD-take, getD-drop, drop-drop, drop-at, take-add, length-take-le}
 use Rattle.numbers.specs.Words.{word32, signed32}
 use Rattle.profile.specs.Signatures as Sig
-use Rattle.profile.specs.Elements.{Entry, start, tagCount, table, entries, body, bodySize, paddedSize, padding, fileLength}
-use Rattle.profile.specs.ElementsLaws.{Fours}
-use Rattle.profile.specs.Plan.{Plan, Kind, isGray, isRgb, isXyb, gray, rgb, xyb}
+use Rattle.profile.specs.Elements.{start, tagCount, table, entries, bodySize, padding, fileLength}
+use Rattle.profile.specs.Plan.{Kind, isGray, isRgb, isXyb, gray, rgb, xyb}
 use Rattle.profile.specs.PlanLaws as PlanLaws
 use Rattle.profile.specs.Shape.{Shape, one, describedSlots, curveSize, slotsFor, slotsOf}
 use Rattle.profile.specs.declared.Curve.the-variants.{Named, Gamma}
 use Rattle.profile.specs.declared.Cicp.the-variants.{Absent, Primaries}
-use Rattle.reading.specs.Table.{varyingOf, tagsOf, tableOf, bodyOf, entriesOf, elementAt}
-use Rattle.reading.specs.TableLaws.{entries-are, tags-are, rest-is}
+use Rattle.reading.specs.Table.{varyingOf, tagsOf, bodyOf, entriesOf, elementAt}
+use Rattle.reading.specs.TableLaws.{entries-are, tags-are}
 use Rattle.reading.specs.ReaderLaws.{regions}
 use Rattle.reading.specs.Recover
 use Rattle.reading.specs.Steps.{Tabled}

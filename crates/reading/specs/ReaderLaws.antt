@@ -1,10 +1,10 @@
 -- The reader accepts exactly the files that plans lay out to, and has one answer to each file. Assumes nothing.
-use Prim.Native.Nat.{ℕ, _+_, _*_, _≤_}
+use Prim.Native.Nat.{ℕ, _+_, _*_}
 use mathlib.Core.Path.{_≡_, refl, ap, ap₂, sym, _∙_, subst}
-use mathlib.Core.List.{List, [], _∷_, _++_}
+use mathlib.Core.List.{List, _++_}
 use native.Mathlib.Omega.{arith}
 use lib.IntN.{ℤ}
-use lib.ListN.{length, take, drop, length-append, length-drop, take-append-drop}
+use lib.ListN.{length, drop, length-append, length-drop, take-append-drop}
 use lib.Seq.{take-at, drop-drop, length-take-le}
 use mir.Syntax.{w32}
 use mir.Val.{SFits}
@@ -14,7 +14,7 @@ use Rattle.profile.specs.Elements.{start, table, body, file, fileLength}
 use Rattle.profile.specs.ElementsLaws.{length-table, length-body}
 use Rattle.profile.specs.Plan.{Plan, Kind, kind, Good, Valid, Wide}
 use Rattle.profile.specs.TagTypes.{zeros}
-use Rattle.profile.specs.Layout.{Varying, header, elements, slots, withId, blanked, profileId, layout}
+use Rattle.profile.specs.Layout.{header, elements, slots, withId, blanked, profileId, layout}
 use Rattle.profile.specs.LayoutLaws.{length-id, layout-bounds, blanked-withId}
 use Rattle.reading.specs.Table.{varyingOf, tagsOf, tableOf, bodyOf}
 use Rattle.reading.specs.Recover.{recover}

@@ -2,10 +2,10 @@
 use Prim.Native.Nat.{ℕ, zero, suc, _+_, _*_, _/_, _-_, _≤_}
 use mathlib.Core.Path.{_≡_, refl, ap, _∙_}
 use mathlib.Core.Bool.{Bool, true, false}
-use mathlib.Core.List.{List, [], _∷_, _++_, map, append-assoc, append-nil}
+use mathlib.Core.List.{List, [], _∷_, _++_, append-assoc, append-nil}
 use native.Mathlib.Omega.{arith}
 use lib.IntN.{ℤ, pos}
-use lib.ListN.{length, take, drop, length-append, length-drop, take-append-drop}
+use lib.ListN.{length, take, drop, length-drop, take-append-drop}
 use lib.Seq.{length-take-le, drop-at, drop-drop}
 use mir.Syntax.{w32}
 use mir.Val.{SFits}
@@ -16,7 +16,7 @@ use Rattle.profile.specs.Signatures as Sig
 use Rattle.profile.specs.Elements.{Entry, entries}
 use Rattle.profile.specs.Plan.{Content, gray, rgb, xyb, Kind, isGray, isRgb, isXyb, kindOf, GoodCurve, GoodGray, GoodRgb, GoodContent}
 use Rattle.profile.specs.TagTypes
-use Rattle.profile.specs.TagTypes.{join, zeros}
+use Rattle.profile.specs.TagTypes.{join}
 use Rattle.profile.specs.Layout.{elementsOf}
 use Rattle.profile.specs.Shape.{isGamma, hasCicp, shapeOf, slotsOf}
 use Rattle.profile.specs.declared.CurveName.the-variants as Name
@@ -99,7 +99,7 @@ All-take zero (more h hs) = none
 All-take (suc n) none = none
 All-take (suc n) (more h hs) = more h (All-take n hs)
 
-All-drop : {P : ℤ → Type 0} (n : ℕ) {l : List ℤ} → All P l → All P (drop n l)
+pub All-drop : {A : Type 0} {P : A → Type 0} (n : ℕ) {l : List A} → All P l → All P (drop n l)
 All-drop zero none = none
 All-drop zero (more h hs) = more h hs
 All-drop (suc n) none = none

@@ -1,16 +1,16 @@
 -- The shape that a file's tag table can only have, by the words of the table; and the table of a shape, by its place in the file. Assumes nothing.
 use Prim.Native.Nat.{ℕ, _+_, _*_, _^_, _≤_, _<_}
-use mathlib.Core.Path.{_≡_, refl, ap, ap₂, sym, _∙_, subst}
+use mathlib.Core.Path.{_≡_, ap, sym, _∙_}
 use mathlib.Core.Logic.{_⊎_, inl, inr}
 use mathlib.Core.Bool.{Bool, true, false}
-use mathlib.Core.List.{List, [], _∷_, _++_}
+use mathlib.Core.List.{List, _++_}
 use native.Mathlib.Omega.{arith}
 use lib.Dec.{eqb}
 use lib.ListN.{length, take, drop, take-append-drop}
 use lib.Seq.{take-at, drop-drop}
 use Rattle.numbers.specs.Words.{word32}
-use Rattle.profile.specs.Elements.{start, tagCount, table, fileLength}
-use Rattle.profile.specs.ElementsLaws.{Fours, length-table}
+use Rattle.profile.specs.Elements.{tagCount, table, fileLength}
+use Rattle.profile.specs.ElementsLaws.{length-table}
 use Rattle.profile.specs.Plan.{Kind, isGray, isRgb, isXyb}
 use Rattle.profile.specs.PlanLaws.{fours, at-most}
 use Rattle.profile.specs.Shape.{Shape, slotsFor, slotsOf}

@@ -3,10 +3,9 @@ use Prim.Native.Nat.{ℕ, zero, suc, _≤_}
 use mathlib.Core.Path.{_≡_, refl, _∙_}
 use mathlib.Core.Logic.{inl}
 use mathlib.Core.Bool.{Bool, true, false}
-use mathlib.Core.List.{List}
 use native.Mathlib.Omega.{arith}
 use lib.IntN.{pos}
-use lib.ListN.{length, replicate, length-replicate}
+use lib.ListN.{replicate, length-replicate}
 use Rattle.buffer.specs.All.{All, none, more}
 use Rattle.profile.specs.Plan.{Plan, Content, gray, rgb, xyb, Kind, isGray, isRgb, isXyb, kindOf, GoodText, GoodCurve, GoodCicp, GoodContent, GoodIntent, InRange, Valid}
 use Rattle.profile.specs.PlanLaws.{NotBoth, GoodShape, good-nines, slots-shape}

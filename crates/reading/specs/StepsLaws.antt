@@ -2,17 +2,14 @@
 use Prim.Native.Nat.{ℕ, _≤_}
 use mathlib.Core.Path.{_≡_, refl, ap, sym, _∙_, subst}
 use mathlib.Core.List.{List}
-use native.Mathlib.Decide.{decLe, ℕ-discrete}
-use lib.ListN.{length, take, drop}
-use mir.Syntax.{w32}
-use mir.Val.{SFits}
-use Rattle.profile.specs.Plan.{Plan, Kind, kind, GoodContent, GoodIntent, InRange, Wide}
-use Rattle.profile.specs.Layout.{profileId, layout, withId, blanked}
+use lib.ListN.{length}
+use Rattle.profile.specs.Plan.{Plan, Kind, GoodContent, GoodIntent, InRange, Wide}
+use Rattle.profile.specs.Layout.{profileId, layout, blanked}
 use Rattle.profile.specs.LayoutLaws.{length-id, blanked-withId}
 use Rattle.profile.specs.Shape.{Shape}
 use Rattle.md5.specs.Md5.{md5}
 use Rattle.reading.specs.Table.{varyingOf}
-use Rattle.reading.specs.Recover.{kindFrom, shapeIn, recover}
+use Rattle.reading.specs.Recover.{shapeIn, recover}
 use Rattle.reading.specs.FileLaws.{id-layout}
 use Rattle.reading.specs.Reader
 use Rattle.reading.specs.ReaderLaws.{has-withId, id-length}

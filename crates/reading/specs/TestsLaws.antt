@@ -1,5 +1,5 @@
 -- Each of the reader's tests is true exactly if what it tests holds. Assumes nothing.
-use Prim.Native.Nat.{ℕ, _≤_}
+use Prim.Native.Nat.{ℕ}
 use mathlib.Core.Path.{_≡_, refl, ap, ap₂, sym, _∙_}
 use mathlib.Core.Logic.{_⊎_, inl, inr}
 use mathlib.Core.Bool.{Bool, true, false, _&&_, _||_}
@@ -7,7 +7,6 @@ use mathlib.Core.List.{List, [], _∷_}
 use native.Mathlib.Omega.{arith}
 use borrow.Author.Tests.{le-leb, eq-eqb}
 use lib.Dec.{T, leb, eqb, leb→le, eqb→eq}
-use lib.Ieee.Fits.{and-l, and-r}
 use lib.IntN.{ℤ, natAbs}
 use Rattle.buffer.specs.All.{All, none, more}
 use Rattle.buffer.specs.Ascii.{Ascii}

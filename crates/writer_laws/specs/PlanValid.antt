@@ -1,10 +1,9 @@
 -- Every plan of an encoding that the writer accepts is one of 01's plans: its text has 1 to 372 bytes, each at most 127, its numbers are in
 -- range, nine and nine, and `cicp` stands beside a named curve only. The floats of the encoding are binary32 values, as those of the code are.
 -- Assumes nothing.
-use Prim.Native.Nat.{ℕ, suc, _≤_}
+use Prim.Native.Nat.{_≤_}
 use mathlib.Core.Path.{_≡_, refl}
 use mathlib.Core.Logic.{inl, inr}
-use mathlib.Core.List.{List, [], _∷_}
 use lib.Dec.{lit≤}
 use Rattle.color_encoding.specs.Intent.{intentNumber}
 use Rattle.color_encoding.specs.Coordinates.{whiteXy, primariesXy}

@@ -1,7 +1,7 @@
 -- `gray_plan` meets its contract: the file is held against the layout of the plan that is recovered from it (`Plans`).
 use Prim.Native.Nat.{ℕ, _≤_}
 use mathlib.Core.Path.{_≡_, refl, sym, ap, ap₂, _∙_, subst}
-use mathlib.Core.Bool.{Bool, true, false, true≢false, _&&_}
+use mathlib.Core.Bool.{true, false, true≢false, _&&_}
 use mathlib.Core.List.{List}
 use native.Mathlib.Omega.{arith}
 use lib.IntN.{ℤ}
@@ -13,10 +13,9 @@ use mir.ValLaws.{toZ-ofZ}
 use borrow.Author.Needs.{needs}
 use borrow.Author.Tests.{not-true, not-false}
 use Rattle.profile.specs.Elements.{start, tagCount}
-use Rattle.profile.specs.Plan.{Plan, gray, grayPlan, isGray, GoodContent}
+use Rattle.profile.specs.Plan.{Plan, grayPlan, isGray, GoodContent}
 use Rattle.profile.specs.Layout.{layout}
 use Rattle.profile.specs.Shape.{shape, isGamma, slotsOf}
-use Rattle.reading.specs.Recover.{recover}
 use Rattle.reading.specs.Read.{fromBody}
 use Rattle.reading.specs.Tests.{inRange, curveInRange}
 use Rattle.reading.specs.TestsLaws.{ascii-if, ascii-of}
