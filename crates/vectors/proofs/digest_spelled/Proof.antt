@@ -3,8 +3,8 @@ use mathlib.Core.Path.{sym}
 use lib.Seq.{length-take-le}
 use native.Mathlib.Omega.{arith}
 use borrow.Author.Needs.{needs}
-use Rattle.vectors.proofs.records.digest_spelled.Statement.{statement}
-use Rattle.vectors.proofs.records.digest_spelled.Tie as tie
+use Rattle.vectors.proofs.digest_spelled.Statement.{statement}
+use Rattle.vectors.proofs.digest_spelled.Tie as tie
 
 returns : tie.Need-returns
 returns c = search needs

@@ -3,14 +3,14 @@ use mathlib.Core.Path.{_≡_}
 use lib.ListN.{length}
 use Prim.Native.Nat.{_-_}
 use borrow.Author.Needs.{needs}
-use Rattle.vectors.proofs.records.patterned.Statement.{statement}
-use Rattle.vectors.proofs.records.patterned.Tie as tie
+use Rattle.vectors.proofs.spelled.Statement.{statement}
+use Rattle.vectors.proofs.spelled.Tie as tie
 
 abbrev Inv-loop : tie.InvT-loop
-Inv-loop data₀ n i₀ «data» i = length «data» ≡ length data₀
+Inv-loop line at data₀ n i₀ «data» i = length «data» ≡ length data₀
 
 abbrev μ-loop : tie.MeasureT-loop
-μ-loop data₀ n i₀ «data» i = n - i
+μ-loop line at data₀ n i₀ «data» i = n - i
 
 returns : tie.Need-returns Inv-loop μ-loop
 returns c = search needs
@@ -21,14 +21,14 @@ returns-2 c = search needs
 loop-holds : tie.Need-loop-holds Inv-loop μ-loop
 loop-holds c = search needs
 
-mul-data : tie.Need-mul-data Inv-loop μ-loop
-mul-data c = search needs
+mul-byte : tie.Need-mul-byte Inv-loop μ-loop
+mul-byte c = search needs
 
-add-data : tie.Need-add-data Inv-loop μ-loop
-add-data c = search needs
+add-byte : tie.Need-add-byte Inv-loop μ-loop
+add-byte c = search needs
 
-cast-data : tie.Need-cast-data Inv-loop μ-loop
-cast-data c = search needs
+byte-requires : tie.Need-byte-requires Inv-loop μ-loop
+byte-requires c κs = search needs
 
 slice-write-data : tie.Need-slice-write-data Inv-loop μ-loop
 slice-write-data c = search needs
@@ -48,8 +48,8 @@ same-length c = search needs
 returns-3 : tie.Need-returns-3 Inv-loop μ-loop
 returns-3 c = search needs
 
-pub patterned-spec : {M : Type 1} → statement M
-patterned-spec =
+pub spelled-spec : {M : Type 1} → statement M
+spelled-spec =
     tie.close
     (tie.spec
     Inv-loop
@@ -57,9 +57,9 @@ patterned-spec =
     returns
     returns-2
     loop-holds
-    mul-data
-    add-data
-    cast-data
+    mul-byte
+    add-byte
+    byte-requires
     slice-write-data
     add-i
     loop-less

@@ -3,8 +3,8 @@ use mathlib.Core.Path.{sym}
 use lib.Seq.{length-take-le}
 use native.Mathlib.Omega.{arith}
 use borrow.Author.Needs.{needs}
-use Rattle.vectors.proofs.examples.answer.Statement.{statement}
-use Rattle.vectors.proofs.examples.answer.Tie as tie
+use Rattle.vectors.proofs.answer.Statement.{statement}
+use Rattle.vectors.proofs.answer.Tie as tie
 
 slice-aggregate-out : tie.Need-slice-aggregate-out
 slice-aggregate-out c = search needs

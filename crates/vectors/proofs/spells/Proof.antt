@@ -1,8 +1,8 @@
 -- The measure is what is left of the bytes. Assumes nothing.
 use Prim.Native.Nat.{_-_}
 use borrow.Author.Needs.{needs}
-use Rattle.vectors.proofs.hex.spells.Statement.{statement}
-use Rattle.vectors.proofs.hex.spells.Tie as tie
+use Rattle.vectors.proofs.spells.Statement.{statement}
+use Rattle.vectors.proofs.spells.Tie as tie
 
 abbrev Inv-loop : tie.InvT-loop
 Inv-loop s at b n i₀ i = Unit {0}

@@ -4,8 +4,8 @@ use native.Mathlib.Omega.{arith}
 use lib.ListN.{length}
 use lib.Seq.{length-take-le}
 use borrow.Author.Needs.{needs}
-use Rattle.vectors.proofs.records.read_back.Statement.{statement}
-use Rattle.vectors.proofs.records.read_back.Tie as tie
+use Rattle.vectors.proofs.read_back.Statement.{statement}
+use Rattle.vectors.proofs.read_back.Tie as tie
 
 returns : tie.Need-returns
 returns c = search needs

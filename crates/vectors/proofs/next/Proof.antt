@@ -3,8 +3,8 @@ use mathlib.Core.Path.{sym}
 use lib.Seq.{length-take-le}
 use native.Mathlib.Omega.{arith}
 use borrow.Author.Needs.{needs}
-use Rattle.vectors.proofs.records.next.Statement.{statement}
-use Rattle.vectors.proofs.records.next.Tie as tie
+use Rattle.vectors.proofs.next.Statement.{statement}
+use Rattle.vectors.proofs.next.Tie as tie
 
 slice-aggregate-read-full : tie.Need-slice-aggregate-read-full
 slice-aggregate-read-full c = search needs

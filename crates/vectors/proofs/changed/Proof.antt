@@ -4,8 +4,8 @@ use native.Mathlib.Omega.{arith}
 use lib.ListN.{length, length-set}
 use lib.Seq.{length-take-le}
 use borrow.Author.Needs.{needs}
-use Rattle.vectors.proofs.records.changed.Statement.{statement}
-use Rattle.vectors.proofs.records.changed.Tie as tie
+use Rattle.vectors.proofs.changed.Statement.{statement}
+use Rattle.vectors.proofs.changed.Tie as tie
 
 returns : tie.Need-returns
 returns c = search needs

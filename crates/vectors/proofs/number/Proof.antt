@@ -1,8 +1,8 @@
 -- Any turn of the loop is safe: the digits wrap. The measure is what is left of the digits. Assumes nothing.
 use Prim.Native.Nat.{_-_}
 use borrow.Author.Needs.{needs}
-use Rattle.vectors.proofs.hex.number.Statement.{statement}
-use Rattle.vectors.proofs.hex.number.Tie as tie
+use Rattle.vectors.proofs.number.Statement.{statement}
+use Rattle.vectors.proofs.number.Tie as tie
 
 abbrev Inv-loop : tie.InvT-loop
 Inv-loop s at digits value₀ i₀ value i = Unit {0}
