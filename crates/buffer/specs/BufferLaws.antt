@@ -7,7 +7,7 @@ use native.Mathlib.Nat.{add-zero, add-assoc}
 use native.Mathlib.Omega.{arith}
 use native.Mathlib.Numerals.{add-one, add-two, add-three}
 use lib.ListN.{length, take, drop, set, length-append, length-drop, take-append-drop}
-use lib.Seq.{take-at, drop-drop, length-take-le, drop-append-add, sets, sets-eq, paste, take-length}
+use lib.Seq.{take-at, drop-at, drop-drop, length-take-le, drop-append-add, sets, sets-eq, paste, take-length}
 use Rattle.buffer.specs.Buffer.{put}
 
 -- ---- `put`
@@ -33,6 +33,11 @@ put-put l i q r h =
     ap (λ (x : List ℕ). put x (i + length q) r) (sym (append-assoc (take i l) q (drop (i + length q) l)))
     ∙ put-after (take i l ++ q) (drop (i + length q) l) r (i + length q) ends
     ∙ simp (append-assoc, drop-drop, length-append, add-assoc)
+
+-- what stands where bytes were put
+pub take-put : (l : List ℕ) (i : ℕ) (q : List ℕ) (n : ℕ) → i ≤ length l → length q ≡ n → take n (drop i (put l i q)) ≡ q
+unfolding put
+take-put l i q n h e = ap (take n) (drop-at (take i l) _ i (length-take-le i l h)) ∙ take-at q _ n e
 
 -- stores at one place after another
 pub stores : (q l : List ℕ) (i : ℕ) → i + length q ≤ length l → sets l i q ≡ put l i q

@@ -5,12 +5,11 @@ use mathlib.Core.Path.{_≡_, refl, ap, sym, _∙_}
 use mathlib.Core.Logic.{_↔_}
 use mathlib.Core.Bool.{Bool, true, false, cond}
 use mathlib.Core.List.{List}
-use native.Mathlib.Nat.{zero-add}
 use native.Mathlib.Omega.{arith}
 use lib.Dec.{leb}
 use lib.ListN.{length, take}
-use lib.Seq.{take-at}
 use Rattle.buffer.specs.Buffer.{put}
+use Rattle.buffer.specs.BufferLaws.{take-put}
 use Rattle.color_encoding.specs.declared.JxlColorEncoding.{JxlColorEncoding}
 use Rattle.text.specs.Held.{HeldEncoding}
 use Rattle.profile.specs.Plan.{Plan, Valid}
@@ -52,10 +51,6 @@ pub record WroteItsPlan (e : JxlColorEncoding) (n : ℕ) (out : List ℕ) : Type
   pub laid-out : wrote e n out ≡ layout plan
   pub read-back : read (wrote e n out) ≡ accepted plan
 
-front : (l q : List ℕ) → take (length q) (put l 0 q) ≡ q
-unfolding put
-front l q = rw (zero-add (length q)) (take-at q _ (length q) refl)
-
 written-not-refused : {n k : ℕ} → Refused k ≡ Written n → ⊥
 written-not-refused e = let z : _≡_ {A = ℕ} 0 1 = cc in absurd (omega arith)
 
@@ -68,7 +63,7 @@ front-of (refused k) n out h = absurd (written-not-refused h)
 front-of (is p) n out h = (p, refl, go (leb (length (layout p)) (length out)) h)
   where
     go : (b : Bool) → cond b (Written (length (layout p))) (Refused 9) ≡ Written n → take n (cond b (put out 0 (layout p)) out) ≡ layout p
-    go true e = ap (λ (k : ℕ). take k (put out 0 (layout p))) (sym (written-length e)) ∙ front out (layout p)
+    go true e = ap (λ (k : ℕ). take k (put out 0 (layout p))) (sym (written-length e)) ∙ take-put out 0 (layout p) (length (layout p)) (omega arith) refl
     go false e = absurd (written-not-refused e)
 
 -- what the writer wrote is its encoding's plan laid out, and the reader answers that plan

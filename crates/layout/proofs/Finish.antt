@@ -7,7 +7,7 @@ use lib.ListN.{length, take}
 use Rattle.numbers.specs.Words.{be32}
 use Rattle.numbers.specs.WordsLaws.{length-be32}
 use Rattle.buffer.specs.Buffer.{put}
-use Rattle.buffer.specs.BufferLaws.{length-put}
+use Rattle.buffer.specs.BufferLaws.{length-put, take-put}
 use Rattle.md5.specs.Md5.{md5}
 use Rattle.md5.specs.Md5Laws.{length-md5}
 use Rattle.profile.specs.Elements.{Slot, table, start, body, bodySize, file, fileLength}
@@ -19,7 +19,7 @@ use Rattle.profile.specs.TagTypes.{join, zeros}
 use Rattle.profile.specs.Layout.{header, elements, slots, withId, blanked, layout}
 use Rattle.profile.specs.LayoutLaws.{length-header, plan-fours, length-layout, blanked-withId, layout-last}
 use Rattle.profile.specs.Shape.{shape, slotsOf}
-use Rattle.layout.proofs.Front.{front, again}
+use Rattle.layout.proofs.Front.{again}
 
 -- the header while the intent and the id are zero
 abbrev blank : Plan → ℕ → List ℕ
@@ -76,7 +76,7 @@ finished p h l {a} {b} {d} {out} {n} {s} room hn hs ha hb hd ho =
     in
     let whole : length f ≡ n = length-blanked p h ∙ sym hn in
     let at-front : d ≡ put l 0 f = laid ∙ ap (put l 0) (blank-parts p h n hn) in
-    let hash : take n d ≡ f = ap₂ take (sym whole) at-front ∙ front l f in
+    let hash : take n d ≡ f = ap₂ take (sym whole) at-front ∙ take-put l 0 f (length f) (omega arith) refl in
     let long : 128 ≤ length f = rw (length-blanked p h) (at-least-header (slotsOf (shape p))) in
     let g : List ℕ = put f 64 (be32 (p .intent)) in
     let intent : 64 + length (be32 (p .intent)) ≤ length f = omega (arith, length-be32 (p .intent)) in

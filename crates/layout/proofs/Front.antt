@@ -1,19 +1,14 @@
--- What the front of a list holds, and what bytes put in there again leave of it. Assumes nothing.
+-- What bytes put in again leave of the front of a list. Assumes nothing.
 use Prim.Native.Nat.{ℕ, _+_, _≤_}
-use mathlib.Core.Path.{_≡_, refl}
+use mathlib.Core.Path.{_≡_}
 use mathlib.Core.List.{List}
 use native.Mathlib.Nat.{zero-add}
 use native.Mathlib.Omega.{arith}
 use mathlib.Core.List.{append-assoc}
-use lib.ListN.{length, take, drop}
-use lib.Seq.{take-at, take-append-le, drop-append-le}
+use lib.ListN.{length, drop}
+use lib.Seq.{take-append-le, drop-append-le}
 use Rattle.buffer.specs.Buffer.{put}
 use Rattle.buffer.specs.BufferLaws.{length-put}
-
--- what is put at the front is the front
-pub front : (l q : List ℕ) → take (length q) (put l 0 q) ≡ q
-unfolding put
-front l q = rw (zero-add (length q)) (take-at q _ (length q) refl)
 
 -- bytes put in again, within what is put at the front
 pub again : (l p : List ℕ) (i : ℕ) (q : List ℕ) → i + length q ≤ length p → put (put l 0 p) i q ≡ put l 0 (put p i q)

@@ -22,7 +22,8 @@ use Rattle.reading.specs.Steps.{Headed, Tabled}
 use Rattle.reading.specs.StepsLaws.{table-25, table-body}
 use Rattle.reading.specs.ShapeLaws.{region-if, table-if}
 use Rattle.reading.specs.PartsLaws.{shaped}
-use Rattle.reader.proofs.Laid.{take-put, not-same}
+use Rattle.buffer.specs.BufferLaws.{take-put}
+use Rattle.reader.proofs.Laid.{not-same}
 use Rattle.reader.specs.declared.Reading.{Reading}
 use Rattle.reader.specs.Reading.{refusedWith, reading}
 

@@ -24,7 +24,7 @@ use Rattle.reading.specs.AgainstLaws.{By}
 use Rattle.reading.specs.PartsLaws.{shaped}
 use Rattle.reader.specs.Reading.{contentReading}
 use Rattle.reader.proofs.Answered.{refused-by, accepted-by}
-use Rattle.reader.proofs.Laid.{take-put}
+use Rattle.buffer.specs.BufferLaws.{take-put}
 use Rattle.reader.proofs.Plans.{same-length, at-least-284, at-most-1240, refuse-26, by, gray-if, gray-of}
 use Rattle.reader.proofs.gray.gray_plan.Statement.{statement}
 use Rattle.reader.proofs.gray.gray_plan.Tie as tie

@@ -21,7 +21,7 @@ use Rattle.reading.specs.Steps.{Tabled}
 use Rattle.reading.specs.AgainstLaws.{By}
 use Rattle.reading.specs.PartsLaws.{shaped}
 use Rattle.reader.proofs.Answered.{refused-by, accepted-by}
-use Rattle.reader.proofs.Laid.{take-put}
+use Rattle.buffer.specs.BufferLaws.{take-put}
 use Rattle.reader.proofs.Plans.{same-length, at-least-284, start-inside, at-most-1240, refuse-26, by, cicp-good, rgb-if, rgb-of}
 use Rattle.reader.proofs.rgb.rgb_plan.Statement.{statement}
 use Rattle.reader.proofs.rgb.rgb_plan.Tie as tie

@@ -20,7 +20,8 @@ use Rattle.reading.specs.StepsLaws.{table-25, table-body}
 use Rattle.reading.specs.Tests.{same}
 use Rattle.reading.specs.TestsLaws.{same-if}
 use Rattle.reader.specs.Reading.{reading, refusedWith}
-use Rattle.reader.proofs.Laid.{take-put, not-same}
+use Rattle.buffer.specs.BufferLaws.{take-put}
+use Rattle.reader.proofs.Laid.{not-same}
 use Rattle.reader.proofs.XybLength.{xyb-length}
 use Rattle.reader.proofs.xyb.xyb_table.Statement.{statement}
 use Rattle.reader.proofs.xyb.xyb_table.Tie as tie
