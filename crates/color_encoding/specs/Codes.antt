@@ -3,9 +3,9 @@
 -- Assumes nothing.
 use Prim.Native.Nat.{ℕ}
 use mathlib.Core.List.{List, [], _∷_, map}
-use mathlib.Core.Option.{Option, none, some}
 use lib.Ieee.{Float}
 use lib.ListN.{getD}
+use Rattle.buffer.specs.Checked.{Checked, is, refused, then}
 use Rattle.color_encoding.specs.declared.RenderingIntent.{RenderingIntent}
 use Rattle.color_encoding.specs.declared.RenderingIntent.the-variants.{Perceptual, Relative, Saturation, Absolute}
 use Rattle.color_encoding.specs.declared.JxlWhitePoint.{JxlWhitePoint}
@@ -22,6 +22,10 @@ use Rattle.color_encoding.specs.declared.PrimariesCode.{PrimariesCode}
 use Rattle.color_encoding.specs.declared.PrimariesCode.the-variants as PC
 use Rattle.color_encoding.specs.declared.TransferFunctionCode.{TransferFunctionCode}
 use Rattle.color_encoding.specs.declared.TransferFunctionCode.the-variants as FC
+use Rattle.color_encoding.specs.declared.JxlColorEncoding.{JxlColorEncoding}
+use Rattle.color_encoding.specs.declared.JxlColorEncoding.the-variants.{RgbColorSpace, GrayscaleColorSpace, XYB}
+use Rattle.color_encoding.specs.declared.EncodingCode.{EncodingCode}
+use Rattle.color_encoding.specs.declared.EncodingCode.the-variants as EC
 
 abbrev pub intentList : List RenderingIntent
 intentList = Perceptual ∷ Relative ∷ Saturation ∷ Absolute ∷ []
@@ -50,20 +54,44 @@ transferFunctionList gamma = F.BT709 ∷ F.Linear ∷ F.SRGB ∷ F.PQ ∷ F.DCI 
 abbrev pub transferFunctionFrom : ℕ → Float → TransferFunctionCode
 transferFunctionFrom n gamma = getD (map FC.Known (transferFunctionList gamma)) n FC.Unknown
 
--- ---- the refusal number of 01 for each answer
+-- ---- what a code gives, or refusal 43
 
-abbrev pub intentRefusal : IntentCode → Option ℕ
-intentRefusal (IC.Known i) = none
-intentRefusal IC.Unknown = some 43
+abbrev pub knownIntent : IntentCode → Checked RenderingIntent
+knownIntent (IC.Known i) = is i
+knownIntent IC.Unknown = refused 43
 
-abbrev pub whitePointRefusal : WhitePointCode → Option ℕ
-whitePointRefusal (WC.Known w) = none
-whitePointRefusal WC.Unknown = some 43
+abbrev pub knownWhitePoint : WhitePointCode → Checked JxlWhitePoint
+knownWhitePoint (WC.Known w) = is w
+knownWhitePoint WC.Unknown = refused 43
 
-abbrev pub primariesRefusal : PrimariesCode → Option ℕ
-primariesRefusal (PC.Known p) = none
-primariesRefusal PC.Unknown = some 43
+abbrev pub knownPrimaries : PrimariesCode → Checked JxlPrimaries
+knownPrimaries (PC.Known p) = is p
+knownPrimaries PC.Unknown = refused 43
 
-abbrev pub transferFunctionRefusal : TransferFunctionCode → Option ℕ
-transferFunctionRefusal (FC.Known f) = none
-transferFunctionRefusal FC.Unknown = some 43
+abbrev pub knownTransferFunction : TransferFunctionCode → Checked JxlTransferFunction
+knownTransferFunction (FC.Known t) = is t
+knownTransferFunction FC.Unknown = refused 43
+
+abbrev pub knownEncoding : EncodingCode → Checked JxlColorEncoding
+knownEncoding (EC.Known e) = is e
+knownEncoding EC.Unknown = refused 43
+
+-- ---- the encoding that codes give together
+
+abbrev pub grayFrom : WhitePointCode → TransferFunctionCode → IntentCode → Checked JxlColorEncoding
+grayFrom w t i =
+    then (knownWhitePoint w) (λ a.
+    then (knownTransferFunction t) (λ b.
+    then (knownIntent i) (λ c.
+    is (GrayscaleColorSpace a b c))))
+
+abbrev pub rgbFrom : WhitePointCode → PrimariesCode → TransferFunctionCode → IntentCode → Checked JxlColorEncoding
+rgbFrom w p t i =
+    then (knownWhitePoint w) (λ a.
+    then (knownPrimaries p) (λ b.
+    then (knownTransferFunction t) (λ c.
+    then (knownIntent i) (λ d.
+    is (RgbColorSpace a b c d)))))
+
+abbrev pub xybFrom : IntentCode → Checked JxlColorEncoding
+xybFrom i = then (knownIntent i) (λ a. is (XYB a))

@@ -4,6 +4,7 @@ ghost use mathlib.Core.Path.{_≡_};
 ghost use Rattle.color_encoding.specs.Coordinates.{whiteXy, primariesXy};
 ghost use Rattle.color_encoding.specs.Intent.{intentNumber, intentName};
 ghost use Rattle.color_encoding.specs.Codes.{intentFrom, whitePointFrom, primariesFrom, transferFunctionFrom};
+ghost use Rattle.color_encoding.specs.Codes.{knownEncoding, grayFrom, rgbFrom, xybFrom};
 
 pub enum RenderingIntent {
     Perceptual,
@@ -94,6 +95,11 @@ pub enum PrimariesCode {
 
 pub enum TransferFunctionCode {
     Known(JxlTransferFunction),
+    Unknown,
+}
+
+pub enum EncodingCode {
+    Known(JxlColorEncoding),
     Unknown,
 }
 
@@ -268,5 +274,67 @@ impl JxlTransferFunction {
             6 => TransferFunctionCode::Known(JxlTransferFunction::Gamma(gamma)),
             _ => TransferFunctionCode::Unknown,
         }
+    }
+}
+
+impl JxlColorEncoding {
+    pub fn gray_from_codes(
+        white: WhitePointCode,
+        transfer: TransferFunctionCode,
+        intent: IntentCode,
+    ) -> EncodingCode
+        ensures { λ r. ⌜ knownEncoding r ≡ grayFrom white transfer intent ⌝ }
+    {
+        let WhitePointCode::Known(white_point) = white else {
+            return EncodingCode::Unknown;
+        };
+        let TransferFunctionCode::Known(transfer_function) = transfer else {
+            return EncodingCode::Unknown;
+        };
+        let IntentCode::Known(rendering_intent) = intent else {
+            return EncodingCode::Unknown;
+        };
+        EncodingCode::Known(JxlColorEncoding::GrayscaleColorSpace {
+            white_point,
+            transfer_function,
+            rendering_intent,
+        })
+    }
+
+    pub fn rgb_from_codes(
+        white: WhitePointCode,
+        primary: PrimariesCode,
+        transfer: TransferFunctionCode,
+        intent: IntentCode,
+    ) -> EncodingCode
+        ensures { λ r. ⌜ knownEncoding r ≡ rgbFrom white primary transfer intent ⌝ }
+    {
+        let WhitePointCode::Known(white_point) = white else {
+            return EncodingCode::Unknown;
+        };
+        let PrimariesCode::Known(primaries) = primary else {
+            return EncodingCode::Unknown;
+        };
+        let TransferFunctionCode::Known(transfer_function) = transfer else {
+            return EncodingCode::Unknown;
+        };
+        let IntentCode::Known(rendering_intent) = intent else {
+            return EncodingCode::Unknown;
+        };
+        EncodingCode::Known(JxlColorEncoding::RgbColorSpace {
+            white_point,
+            primaries,
+            transfer_function,
+            rendering_intent,
+        })
+    }
+
+    pub fn xyb_from_code(intent: IntentCode) -> EncodingCode
+        ensures { λ r. ⌜ knownEncoding r ≡ xybFrom intent ⌝ }
+    {
+        let IntentCode::Known(rendering_intent) = intent else {
+            return EncodingCode::Unknown;
+        };
+        EncodingCode::Known(JxlColorEncoding::XYB { rendering_intent })
     }
 }

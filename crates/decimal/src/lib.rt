@@ -96,7 +96,7 @@ fn put_up_to_two(out: &mut [u8], at: usize, n: u64) -> usize
 }
 
 // n without leading zeros: up to four digits.
-fn put_up_to_four(out: &mut [u8], at: usize, n: u64) -> usize
+pub fn put_up_to_four(out: &mut [u8], at: usize, n: u64) -> usize
     requires { ⌜ (n < 10 ^ 4) × (at + 4 ≤ length (now out)) ⌝ }
     ensures { λ r. ⌜ Puts (now (out .entry)) at (digits n) r (now (out .exit)) ⌝ }
 {

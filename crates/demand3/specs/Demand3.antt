@@ -14,7 +14,7 @@ use Rattle.color_encoding.specs.declared.JxlColorEncoding.{JxlColorEncoding}
 use Rattle.text.specs.Held.{HeldEncoding}
 use Rattle.profile.specs.Plan.{Plan, Valid}
 use Rattle.profile.specs.Layout.{layout}
-use Rattle.writer.specs.Checked.{Checked, is, refused}
+use Rattle.buffer.specs.Checked.{Checked, is, refused}
 use Rattle.writer.specs.PlanOf.{planOf}
 use Rattle.writer.specs.Writer.{answer, output}
 use Rattle.writer.specs.declared.Profile.the-variants.{Written, Refused}

@@ -35,7 +35,7 @@ use Rattle.profile.specs.LayoutLaws.{length-layout}
 use Rattle.profile.specs.declared.CurveName.the-variants as Name
 use Rattle.profile.specs.declared.Curve.the-variants.{Named}
 use Rattle.profile.specs.declared.Cicp.the-variants.{Primaries}
-use Rattle.writer.specs.Checked.{Checked, is}
+use Rattle.buffer.specs.Checked.{Checked, is}
 use Rattle.writer.specs.PlanOf.{planOf}
 use Rattle.writer.specs.Writer.{answer}
 use Rattle.writer.specs.declared.Profile.the-variants.{Written}

@@ -16,7 +16,7 @@ use Rattle.color_encoding.specs.declared.PrimariesCode.{PrimariesCode}
 use Rattle.color_encoding.specs.declared.PrimariesCode.the-variants as P
 use Rattle.color_encoding.specs.declared.TransferFunctionCode.{TransferFunctionCode}
 use Rattle.color_encoding.specs.declared.TransferFunctionCode.the-variants as F
-use Rattle.writer.specs.Checked.{Checked, is, refused, then}
+use Rattle.buffer.specs.Checked.{Checked, is, refused, then}
 use Rattle.writer.specs.PlanOf.{planOf}
 use Rattle.writer.specs.Writer.{answer, output}
 use Rattle.writer.specs.declared.Profile.{Profile}

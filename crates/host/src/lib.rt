@@ -13,7 +13,7 @@ use writer::Profile;
 ghost use mathlib.Core.Path.{_≡_};
 ghost use lib.ListN.{length};
 ghost use Rattle.color_encoding.specs.Codes.{whitePointFrom, primariesFrom, transferFunctionFrom, intentFrom};
-ghost use Rattle.writer.specs.Checked.{is};
+ghost use Rattle.buffer.specs.Checked.{is};
 ghost use Rattle.host.specs.Host.{grayFrom, rgbFrom, xybFrom, answered, left};
 
 fn write(encoding: JxlColorEncoding, out: &mut [u8]) -> u32

@@ -5,7 +5,7 @@ use mathlib.Core.List.{List, [], _∷_, _++_, append-assoc, append-nil}
 use native.Mathlib.Numerals.{add-one}
 use lib.ListN.{length, take, drop, getD, set}
 use lib.Seq.{drop-cons, take-suc-set, take-length, drop-length}
-use Rattle.writer.specs.Checked.{Checked, is, refused, then, each}
+use Rattle.buffer.specs.Checked.{Checked, is, refused, then, each}
 
 shift : {B : Type 0} (c : Checked (List B)) (a : List B) (y : B) → then (then c (λ zs. is (y ∷ zs))) (λ zs. is (a ++ zs)) ≡ then c (λ zs. is ((a ++ (y ∷ [])) ++ zs))
 shift (is zs) a y = ap is (sym (append-assoc a (y ∷ []) zs))

@@ -18,7 +18,7 @@ use Rattle.profile.specs.Layout.{layout}
 use Rattle.profile.specs.LayoutLaws.{length-layout}
 use Rattle.profile.specs.declared.Curve.{Curve}
 use Rattle.profile.specs.declared.Cicp.{Cicp}
-use Rattle.writer.specs.Checked.{Checked, is, refused}
+use Rattle.buffer.specs.Checked.{Checked, is, refused}
 use Rattle.writer.specs.Writer.{answer, output}
 use Rattle.writer.specs.declared.Profile.{Profile}
 use Rattle.writer.specs.declared.Profile.the-variants.{Written, Refused}

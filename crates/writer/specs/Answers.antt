@@ -6,7 +6,7 @@ use lib.IntN.{ℤ}
 use Rattle.color_encoding.specs.declared.JxlTransferFunction.{JxlTransferFunction}
 use Rattle.color_encoding.specs.declared.JxlTransferFunction.the-variants as F
 use Rattle.profile.specs.declared.Curve.{Curve}
-use Rattle.writer.specs.Checked.{Checked, is, refused}
+use Rattle.buffer.specs.Checked.{Checked, is, refused}
 use Rattle.writer.specs.declared.plan.CurveAnswer.{CurveAnswer}
 use Rattle.writer.specs.declared.plan.CurveAnswer.the-variants as C
 use Rattle.writer.specs.declared.plan.GrayWhite.{GrayWhite}

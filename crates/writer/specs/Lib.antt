@@ -1,4 +1,3 @@
-pub mod Checked
 pub mod PlanOf
 pub mod Writer
 pub mod Validate

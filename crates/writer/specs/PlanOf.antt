@@ -34,7 +34,7 @@ use Rattle.profile.specs.declared.Curve.{Curve}
 use Rattle.profile.specs.declared.Curve.the-variants.{Named, Gamma}
 use Rattle.profile.specs.declared.Cicp.{Cicp}
 use Rattle.profile.specs.declared.Cicp.the-variants.{Absent, Primaries}
-use Rattle.writer.specs.Checked.{Checked, is, refused, then, each}
+use Rattle.buffer.specs.Checked.{Checked, is, refused, then, each}
 
 -- ---- numbers
 

@@ -16,7 +16,7 @@ use Rattle.text.specs.Description.{description}
 use Rattle.colorimetry.specs.White.{cieXyzFromWhiteCieXy}
 use Rattle.profile.specs.Plan.{grayPlan, rgbPlan}
 use Rattle.profile.specs.declared.Curve.{Curve}
-use Rattle.writer.specs.Checked.{is, refused}
+use Rattle.buffer.specs.Checked.{is, refused}
 use Rattle.writer.specs.PlanOf.{supported, curveOf, grayNumbers, chadNumbers, columnNumbers, cicpOf, planOf}
 use Rattle.writer.specs.Answers.{isHdr}
 

@@ -10,7 +10,7 @@ use Rattle.color_encoding.specs.declared.JxlWhitePoint.the-variants as W
 use Rattle.colorimetry.specs.White.{inRange}
 use Rattle.colorimetry.specs.Adapt.{adaptable}
 use Rattle.text.specs.Held.{InRange}
-use Rattle.writer.specs.Checked.{is, refused}
+use Rattle.buffer.specs.Checked.{is, refused}
 use Rattle.writer.specs.PlanOf.{chadNumbers}
 use Rattle.writer.specs.MatrixLaws.{not-adapted}
 

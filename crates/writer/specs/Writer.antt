@@ -7,7 +7,7 @@ use lib.ListN.{length}
 use Rattle.buffer.specs.Buffer.{put}
 use Rattle.profile.specs.Plan.{Plan}
 use Rattle.profile.specs.Layout.{layout}
-use Rattle.writer.specs.Checked.{Checked, is, refused}
+use Rattle.buffer.specs.Checked.{Checked, is, refused}
 use Rattle.writer.specs.declared.Profile.{Profile}
 use Rattle.writer.specs.declared.Profile.the-variants.{Written, Refused}
 

@@ -18,7 +18,7 @@ ghost use lib.ListN.{length};
 ghost use Rattle.profile.specs.Plan.{grayPlan, rgbPlan};
 ghost use Rattle.text.specs.Description.{description};
 ghost use Rattle.text.specs.Held.{WhiteInRange};
-ghost use Rattle.writer.specs.Checked.{is};
+ghost use Rattle.buffer.specs.Checked.{is};
 ghost use Rattle.writer.specs.PlanOf.{planOf};
 ghost use Rattle.writer.specs.Writer.{answer, output};
 

@@ -16,7 +16,7 @@ ghost use mathlib.Core.List.{_++_};
 ghost use Prim.Native.Nat.{_<_};
 ghost use Rattle.linalg.specs.Linalg.{three, entry, column};
 ghost use Rattle.colorimetry.specs.White.{cieXyzFromWhiteCieXy};
-ghost use Rattle.writer.specs.Checked.{each};
+ghost use Rattle.buffer.specs.Checked.{each};
 ghost use Rattle.writer.specs.PlanOf.{curveOf, grayNumbers, fixedOr, chadNumbers, columnNumbers, cicpOf};
 ghost use Rattle.writer.specs.Answers.{isHdr, checkedCurve, checkedWhite, checkedNumbers};
 

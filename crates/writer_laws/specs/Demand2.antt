@@ -37,7 +37,7 @@ use Rattle.profile.specs.Layout.{layout}
 use Rattle.profile.specs.declared.Curve.{Curve}
 use Rattle.profile.specs.declared.Curve.the-variants.{Gamma}
 use Rattle.writer.specs.Answers.{isHdr}
-use Rattle.writer.specs.Checked.{Checked, is, refused, each}
+use Rattle.buffer.specs.Checked.{Checked, is, refused, each}
 use Rattle.writer.specs.PlanOf.{fixedOr, supported, curveOf, grayNumbers, chadNumbers, columnNumbers, planOf}
 use Rattle.writer.specs.PlanOfLaws.{gray-plan, rgb-plan}
 use Rattle.writer.specs.MatrixLaws.{rgb-rows}
@@ -46,7 +46,8 @@ use Rattle.writer.specs.Writer.{answer}
 use Rattle.writer.specs.declared.validate.Validation.{Validation}
 use Rattle.writer.specs.declared.validate.Validation.the-variants.{Valid, InvalidWhitePointY as WhitePointYInvalid, InvalidWhitePoint, MatrixInversionFailed, ValueOutOfRange}
 use Rattle.writer.specs.declared.Profile.the-variants.{Written, Refused}
-use Rattle.writer_laws.specs.CheckedLaws.{Passes, never, both, number-if, tested-if, fixed-if, Tested, all-tested, tested-all, each-tested, each-passes}
+use Rattle.buffer.specs.CheckedLaws.{Passes, never, both}
+use Rattle.writer_laws.specs.FixedOrLaws.{number-if, tested-if, fixed-if, Tested, all-tested, tested-all, each-tested, each-passes}
 use Rattle.writer_laws.specs.PlanLaws.{rows, columns, chad-given, columns-given, supported-curve}
 use Rattle.writer_laws.specs.WrittenLength.{written-length}
 

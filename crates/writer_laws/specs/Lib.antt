@@ -1,6 +1,7 @@
 pub mod FixedRange
-pub mod CheckedLaws
+pub mod FixedOrLaws
 pub mod PlanLaws
 pub mod PlanValid
 pub mod WrittenLength
 pub mod Demand2
+pub mod RefusalNumbers

@@ -19,10 +19,11 @@ use Rattle.profile.specs.Plan.{InRange, GoodCurve}
 use Rattle.profile.specs.declared.Curve.{Curve}
 use Rattle.profile.specs.declared.Curve.the-variants.{Named, Gamma}
 use Rattle.profile.specs.declared.CurveName.{CurveName}
-use Rattle.writer.specs.Checked.{is, refused, each}
+use Rattle.buffer.specs.Checked.{is, refused, each}
 use Rattle.writer.specs.PlanOf.{fixedOr, supported, curveOf, grayNumbers, chadNumbers, columnNumbers}
 use Rattle.writer.specs.MatrixLaws.{Rows, chad-rows}
-use Rattle.writer_laws.specs.CheckedLaws.{never, both, within-if, each-length, each-all}
+use Rattle.buffer.specs.CheckedLaws.{never, both, each-length, each-all}
+use Rattle.writer_laws.specs.FixedOrLaws.{within-if}
 
 -- ---- `chad` and the columns
 

@@ -23,10 +23,10 @@ use Rattle.profile.specs.Plan.{Plan, grayPlan, rgbPlan, xybPlan, GoodText, Good
 use Rattle.profile.specs.declared.Curve.{Curve}
 use Rattle.profile.specs.declared.Curve.the-variants.{Named, Gamma}
 use Rattle.profile.specs.declared.CurveName.{CurveName}
-use Rattle.writer.specs.Checked.{is}
+use Rattle.buffer.specs.Checked.{is}
 use Rattle.writer.specs.PlanOf.{supported, curveOf, grayNumbers, chadNumbers, columnNumbers, cicpPair, cicpOf, planOf}
 use Rattle.writer.specs.WhiteLaws.{white-in-range}
-use Rattle.writer_laws.specs.CheckedLaws.{never, both}
+use Rattle.buffer.specs.CheckedLaws.{never, both}
 use Rattle.writer_laws.specs.PlanLaws.{chad-nine, chad-within, columns-nine, columns-within, white-within, curve-good}
 
 intent-at-most : (i : RenderingIntent) → intentNumber i ≤ 3

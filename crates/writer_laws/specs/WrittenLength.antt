@@ -39,10 +39,10 @@ use Rattle.profile.specs.declared.Curve.{Curve}
 use Rattle.profile.specs.declared.Curve.the-variants.{Named, Gamma}
 use Rattle.profile.specs.declared.CurveName.{CurveName}
 use Rattle.profile.specs.declared.CurveName.the-variants as Name
-use Rattle.writer.specs.Checked.{is}
+use Rattle.buffer.specs.Checked.{is}
 use Rattle.writer.specs.PlanOf.{fixedOr, supported, curveOf, grayNumbers, chadNumbers, columnNumbers, cicpOf, planOf}
 use Rattle.writer.specs.WhiteLaws.{white-in-range}
-use Rattle.writer_laws.specs.CheckedLaws.{never, both}
+use Rattle.buffer.specs.CheckedLaws.{never, both}
 use Rattle.writer_laws.specs.PlanLaws.{supported-curve, chad-nine, columns-nine}
 use Rattle.writer_laws.specs.PlanValid.{plan-valid}
 

@@ -6,7 +6,7 @@ use mir.ValLaws.{toZ-ofZ}
 use borrow.Author.Needs.{needs, sfits-of}
 use Rattle.color_encoding.specs.Coordinates.{whiteXy}
 use Rattle.colorimetry.specs.White.{cieXyzFromWhiteCieXy}
-use Rattle.writer.specs.Checked.{is}
+use Rattle.buffer.specs.Checked.{is}
 use Rattle.writer.specs.PlanOf.{grayNumbers}
 use Rattle.writer.specs.Answers.{isHdr, checkedCurve, checkedWhite}
 use Rattle.writer.proofs.Laying.{refusal, plan-known}

@@ -5,7 +5,7 @@ use mathlib.Core.Bool.{false}
 use borrow.Author.Needs.{needs}
 use borrow.Author.Tests.{eq-eqb, ne-eqb}
 use Rattle.color_encoding.specs.Coordinates.{whiteXy, primariesXy}
-use Rattle.writer.specs.Checked.{is}
+use Rattle.buffer.specs.Checked.{is}
 use Rattle.writer.specs.PlanOf.{chadNumbers, columnNumbers}
 use Rattle.writer.specs.PlanOfLaws.{rgb-hdr, rgb-no-chad, rgb-no-columns, rgb-no-curve, rgb-plan}
 use Rattle.writer.specs.WhiteLaws.{white-in-range}

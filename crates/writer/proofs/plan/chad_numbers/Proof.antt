@@ -4,7 +4,7 @@ use mathlib.Core.Option.{none}
 use borrow.Author.Needs.{needs}
 use Rattle.colorimetry.specs.Adapt.{createIccChadMatrix}
 use Rattle.colorimetry.specs.AnswerLaws.{adapted-if, white-refused-if}
-use Rattle.writer.specs.Checked.{each}
+use Rattle.buffer.specs.Checked.{each}
 use Rattle.writer.specs.PlanOf.{fixedOr}
 use Rattle.writer.specs.MatrixLaws.{chad-rows}
 use Rattle.writer.proofs.plan.chad_numbers.Statement.{statement}

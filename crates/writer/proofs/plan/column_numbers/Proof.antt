@@ -3,7 +3,7 @@ use mathlib.Core.Path.{_≡_, sym, ap, _∙_}
 use borrow.Author.Needs.{needs}
 use Rattle.colorimetry.specs.Primaries.{converted, invalid-white-point, inversion-failed, createIccRgbMatrix}
 use Rattle.colorimetry.specs.AnswerLaws.{converted-if, invalid-white-point-if, inversion-failed-if}
-use Rattle.writer.specs.Checked.{each}
+use Rattle.buffer.specs.Checked.{each}
 use Rattle.writer.specs.PlanOf.{fixedOr}
 use Rattle.writer.proofs.plan.column_numbers.Statement.{statement}
 use Rattle.writer.proofs.plan.column_numbers.Tie as tie

@@ -5,7 +5,7 @@ use mir.Syntax.{w32}
 use mir.ValLaws.{toZ-ofZ}
 use borrow.Author.Needs.{sfits-of, needs}
 use Rattle.profile.specs.declared.Curve.the-variants.{Gamma}
-use Rattle.writer.specs.Checked.{is}
+use Rattle.buffer.specs.Checked.{is}
 use Rattle.writer.specs.PlanOf.{curveOf}
 use Rattle.writer.proofs.plan.curve_of.Statement.{statement}
 use Rattle.writer.proofs.plan.curve_of.Tie as tie

@@ -4,7 +4,7 @@ use lib.IntN.{ℤ}
 use mir.Syntax.{w32}
 use mir.ValLaws.{toZ-ofZ}
 use borrow.Author.Needs.{sfits-of, needs}
-use Rattle.writer.specs.Checked.{is}
+use Rattle.buffer.specs.Checked.{is}
 use Rattle.colorimetry.specs.White.{cieXyzFromWhiteCieXy}
 use Rattle.colorimetry.specs.declared.WhiteXyz.the-variants.{Xyz}
 use Rattle.writer.specs.PlanOf.{grayNumbers}

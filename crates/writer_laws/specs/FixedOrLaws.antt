@@ -1,4 +1,4 @@
--- What a check that passed tells: of one after another, of each member of a list, and of a fixed number. Assumes nothing.
+-- What a check of a fixed number tells where it passed. Assumes nothing.
 use Prim.Native.Nat.{ℕ, suc, _≤_}
 use mathlib.Core.Path.{_≡_, refl, sym, ap, _∙_}
 use mathlib.Core.Bool.{Bool, true, false, _&&_, true≢false}
@@ -12,28 +12,11 @@ use Rattle.numbers.specs.Fixed.{limit, s15Fixed16}
 use Rattle.numbers.specs.FixedLaws.{number-within}
 use Rattle.numbers.specs.declared.fixed.S15Fixed16.{S15Fixed16}
 use Rattle.numbers.specs.declared.fixed.S15Fixed16.the-variants.{Number, OutOfRange}
-use Rattle.writer.specs.Checked.{Checked, is, refused, then, each}
+use Rattle.buffer.specs.Checked.{is, refused, each}
+use Rattle.buffer.specs.CheckedLaws.{Passes, both}
 use Rattle.writer.specs.PlanOf.{fixedOr}
 use Rattle.writer.specs.Validate.{isS15Fixed16, allS15Fixed16}
 use Rattle.writer_laws.specs.FixedRange.{isNumber, fixed-range}
-
--- a check that passed, with what it gave
-pub record Passes {A : Type 0} (c : Checked A) : Type 0 where
-  pub value : A
-  pub given : c ≡ is value
-
--- two checks that passed, the second after the first
-pub record Both {A B : Type 0} (c : Checked A) (f : A → Checked B) (b : B) : Type 0 where
-  pub value : A
-  pub first : c ≡ is value
-  pub second : f value ≡ is b
-
-pub never : {A : Type 0} {n : ℕ} {a : A} → refused n ≡ is a → ⊥
-never e = let zero-one : _≡_ {A = ℕ} 0 1 = cc in omega arith
-
-pub both : {A B : Type 0} (c : Checked A) (f : A → Checked B) {b : B} → then c f ≡ is b → Both c f b
-both (is a) f e = record { value = a; first = refl; second = e }
-both (refused n) f e = absurd (never e)
 
 -- ---- a fixed number
 
@@ -57,25 +40,6 @@ fixed-if n x e = go (s15Fixed16 x) refl
     go : (s : S15Fixed16) → s15Fixed16 x ≡ s → Passes (fixedOr n x)
     go (Number z) h = record { value = z; given = simp h }
     go OutOfRange h = absurd (true≢false (sym e ∙ fixed-range x ∙ ap isNumber h))
-
--- ---- each member of a list
-
-module _ {A B : Type 0} (f : A → Checked B) where
-  pub each-length : (xs : List A) (ys : List B) → each f xs ≡ is ys → length ys ≡ length xs
-  each-length [] ys e = let none : ys ≡ [] = cc in ap length none
-  each-length (x ∷ xs) ys e =
-      let p = both (f x) _ e in
-      let q = both (each f xs) _ (p .second) in
-      let same : p .value ∷ q .value ≡ ys = cc (q .second) in
-      ap length (sym same) ∙ ap suc (each-length xs (q .value) (q .first))
-
-  pub each-all : (P : B → Type 0) → ((x : A) (y : B) → f x ≡ is y → P y) → (xs : List A) (ys : List B) → each f xs ≡ is ys → All P ys
-  each-all P h [] ys e = let same : [] ≡ ys = cc in rw (← same) none
-  each-all P h (x ∷ xs) ys e =
-      let p = both (f x) _ e in
-      let q = both (each f xs) _ (p .second) in
-      let same : p .value ∷ q .value ≡ ys = cc (q .second) in
-      rw (← same) (more (h x (p .value) (p .first)) (each-all P h xs (q .value) (q .first)))
 
 -- ---- the floats of a list, all in range
 

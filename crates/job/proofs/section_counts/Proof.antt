@@ -1,0 +1,176 @@
+-- The three sections one after another, by the laws of CountsLaws. Assumes nothing.
+use Prim.Native.Nat.{_+_, _*_}
+use mathlib.Core.Path.{_≡_}
+use native.Mathlib.Omega.{arith}
+use lib.ListN.{length}
+use Rattle.job.specs.Counts.{SpanIs}
+use Rattle.job.specs.CountsLaws.{early-gray, early-rgb, early-xyb, bytes-left, all-there}
+use Rattle.job.specs.declared.Span.the-variants.{Whole}
+use Rattle.job.proofs.Spans.{known}
+use borrow.Author.Needs.{needs}
+use Rattle.job.proofs.section_counts.Statement.{statement}
+use Rattle.job.proofs.section_counts.Tie as tie
+
+section-at-requires : tie.Need-section-at-requires
+section-at-requires c κs = search needs
+
+enum-known-gray : tie.Need-enum-known-gray
+enum-known-gray c = search needs
+
+enum-told : tie.Need-enum-told
+enum-told c = search needs
+
+returns : tie.Need-returns
+returns c =
+    let l = c .before .before .before .before .args .job .now in
+    record { by = early-gray l (known l 0 15 (c .enum-told .given .1) (c .before .before .section-at .ensures)); filled = tt }
+
+mul-rgb-at : tie.Need-mul-rgb-at
+mul-rgb-at c =
+    let l = c .before .before .before .before .before .args .job .now in
+    let g = c .before .gray .given .0 .0 in
+    let a : SpanIs l 0 15 (Whole g) = known l 0 15 (c .before .gray .given .1) (c .before .before .before .section-at .ensures) in
+    omega (arith, a .2)
+
+add-rgb-at : tie.Need-add-rgb-at
+add-rgb-at c =
+    let l = c .before .before .before .before .before .args .job .now in
+    let g = c .before .gray .given .0 .0 in
+    let a : SpanIs l 0 15 (Whole g) = known l 0 15 (c .before .gray .given .1) (c .before .before .before .section-at .ensures) in
+    omega (arith, a .2)
+
+section-at-requires-2 : tie.Need-section-at-requires-2
+section-at-requires-2 c κs = search needs
+
+enum-known-rgb : tie.Need-enum-known-rgb
+enum-known-rgb c = search needs
+
+enum-told-2 : tie.Need-enum-told-2
+enum-told-2 c = search needs
+
+returns-2 : tie.Need-returns-2
+returns-2 c =
+    let l = c .before .before .before .before .before .before .before .before .args .job .now in
+    let g = c .before .before .before .before .gray .given .0 .0 in
+    let a : SpanIs l 0 15 (Whole g) = known l 0 15 (c .before .before .before .before .gray .given .1) (c .before .before .before .before .before .before .section-at .ensures) in
+    record { by = early-rgb l g a (known l (1 + g * 15) 40 (c .enum-told2 .given .1) (c .before .before .section-at2 .ensures)); filled = tt }
+
+add-xyb-at : tie.Need-add-xyb-at
+add-xyb-at c =
+    let l = c .before .before .before .before .before .before .before .before .before .args .job .now in
+    let g = c .before .before .before .before .before .gray .given .0 .0 in
+    let a : SpanIs l 0 15 (Whole g) = known l 0 15 (c .before .before .before .before .before .gray .given .1) (c .before .before .before .before .before .before .before .section-at .ensures) in
+    let r = c .before .rgb .given .0 .0 in
+    let d : SpanIs l (1 + g * 15) 40 (Whole r) = known l (1 + g * 15) 40 (c .before .rgb .given .1) (c .before .before .before .section-at2 .ensures) in
+    omega (arith, a .2)
+
+mul-xyb-at : tie.Need-mul-xyb-at
+mul-xyb-at c =
+    let l = c .before .before .before .before .before .before .before .before .before .args .job .now in
+    let g = c .before .before .before .before .before .gray .given .0 .0 in
+    let a : SpanIs l 0 15 (Whole g) = known l 0 15 (c .before .before .before .before .before .gray .given .1) (c .before .before .before .before .before .before .before .section-at .ensures) in
+    let r = c .before .rgb .given .0 .0 in
+    let d : SpanIs l (1 + g * 15) 40 (Whole r) = known l (1 + g * 15) 40 (c .before .rgb .given .1) (c .before .before .before .section-at2 .ensures) in
+    omega (arith, d .2)
+
+add-xyb-at-2 : tie.Need-add-xyb-at-2
+add-xyb-at-2 c =
+    let l = c .before .before .before .before .before .before .before .before .before .args .job .now in
+    let g = c .before .before .before .before .before .gray .given .0 .0 in
+    let a : SpanIs l 0 15 (Whole g) = known l 0 15 (c .before .before .before .before .before .gray .given .1) (c .before .before .before .before .before .before .before .section-at .ensures) in
+    let r = c .before .rgb .given .0 .0 in
+    let d : SpanIs l (1 + g * 15) 40 (Whole r) = known l (1 + g * 15) 40 (c .before .rgb .given .1) (c .before .before .before .section-at2 .ensures) in
+    omega (arith, a .2, d .2)
+
+section-at-requires-3 : tie.Need-section-at-requires-3
+section-at-requires-3 c κs = search needs
+
+enum-known-xyb : tie.Need-enum-known-xyb
+enum-known-xyb c = search needs
+
+enum-told-3 : tie.Need-enum-told-3
+enum-told-3 c = search needs
+
+returns-3 : tie.Need-returns-3
+returns-3 c =
+    let l = c .before .before .before .before .before .before .before .before .before .before .before .before .args .job .now in
+    let g = c .before .before .before .before .before .before .before .before .gray .given .0 .0 in
+    let a : SpanIs l 0 15 (Whole g) = known l 0 15 (c .before .before .before .before .before .before .before .before .gray .given .1) (c .before .before .before .before .before .before .before .before .before .before .section-at .ensures) in
+    let r = c .before .before .before .before .rgb .given .0 .0 in
+    let d : SpanIs l (1 + g * 15) 40 (Whole r) = known l (1 + g * 15) 40 (c .before .before .before .before .rgb .given .1) (c .before .before .before .before .before .before .section-at2 .ensures) in
+    record { by = early-xyb l g a r d (known l (1 + g * 15 + 1 + r * 40) 1 (c .enum-told3 .given .1) (c .before .before .section-at3 .ensures)); filled = tt }
+
+add-if1 : tie.Need-add-if1
+add-if1 c =
+    let l = c .before .before .before .before .before .before .before .before .before .before .before .before .before .args .job .now in
+    let g = c .before .before .before .before .before .before .before .before .before .gray .given .0 .0 in
+    let a : SpanIs l 0 15 (Whole g) = known l 0 15 (c .before .before .before .before .before .before .before .before .before .gray .given .1) (c .before .before .before .before .before .before .before .before .before .before .before .section-at .ensures) in
+    let r = c .before .before .before .before .before .rgb .given .0 .0 in
+    let d : SpanIs l (1 + g * 15) 40 (Whole r) = known l (1 + g * 15) 40 (c .before .before .before .before .before .rgb .given .1) (c .before .before .before .before .before .before .before .section-at2 .ensures) in
+    let x = c .before .xyb .given .0 .0 in
+    let e : SpanIs l (1 + g * 15 + 1 + r * 40) 1 (Whole x) = known l (1 + g * 15 + 1 + r * 40) 1 (c .before .xyb .given .1) (c .before .before .before .section-at3 .ensures) in
+    omega (arith, a .2, d .2)
+
+mul-if1 : tie.Need-mul-if1
+mul-if1 c = search needs
+
+add-if1-2 : tie.Need-add-if1-2
+add-if1-2 c =
+    let l = c .before .before .before .before .before .before .before .before .before .before .before .before .before .args .job .now in
+    let g = c .before .before .before .before .before .before .before .before .before .gray .given .0 .0 in
+    let a : SpanIs l 0 15 (Whole g) = known l 0 15 (c .before .before .before .before .before .before .before .before .before .gray .given .1) (c .before .before .before .before .before .before .before .before .before .before .before .section-at .ensures) in
+    let r = c .before .before .before .before .before .rgb .given .0 .0 in
+    let d : SpanIs l (1 + g * 15) 40 (Whole r) = known l (1 + g * 15) 40 (c .before .before .before .before .before .rgb .given .1) (c .before .before .before .before .before .before .before .section-at2 .ensures) in
+    let x = c .before .xyb .given .0 .0 in
+    let e : SpanIs l (1 + g * 15 + 1 + r * 40) 1 (Whole x) = known l (1 + g * 15 + 1 + r * 40) 1 (c .before .xyb .given .1) (c .before .before .before .section-at3 .ensures) in
+    omega (arith, a .2, d .2, e .2)
+
+returns-4 : tie.Need-returns-4
+returns-4 c =
+    let l = c .before .before .before .before .before .before .before .before .before .before .before .before .before .before .args .job .now in
+    let g = c .before .before .before .before .before .before .before .before .before .before .gray .given .0 .0 in
+    let a : SpanIs l 0 15 (Whole g) = known l 0 15 (c .before .before .before .before .before .before .before .before .before .before .gray .given .1) (c .before .before .before .before .before .before .before .before .before .before .before .before .section-at .ensures) in
+    let r = c .before .before .before .before .before .before .rgb .given .0 .0 in
+    let d : SpanIs l (1 + g * 15) 40 (Whole r) = known l (1 + g * 15) 40 (c .before .before .before .before .before .before .rgb .given .1) (c .before .before .before .before .before .before .before .before .section-at2 .ensures) in
+    let x = c .before .before .xyb .given .0 .0 in
+    let e : SpanIs l (1 + g * 15 + 1 + r * 40) 1 (Whole x) = known l (1 + g * 15 + 1 + r * 40) 1 (c .before .before .xyb .given .1) (c .before .before .before .before .section-at3 .ensures) in
+    record { by = bytes-left l g a r d x e (omega arith); filled = tt }
+
+returns-5 : tie.Need-returns-5
+returns-5 c =
+    let l = c .before .before .before .before .before .before .before .before .before .before .before .before .before .before .args .job .now in
+    let g = c .before .before .before .before .before .before .before .before .before .before .gray .given .0 .0 in
+    let a : SpanIs l 0 15 (Whole g) = known l 0 15 (c .before .before .before .before .before .before .before .before .before .before .gray .given .1) (c .before .before .before .before .before .before .before .before .before .before .before .before .section-at .ensures) in
+    let r = c .before .before .before .before .before .before .rgb .given .0 .0 in
+    let d : SpanIs l (1 + g * 15) 40 (Whole r) = known l (1 + g * 15) 40 (c .before .before .before .before .before .before .rgb .given .1) (c .before .before .before .before .before .before .before .before .section-at2 .ensures) in
+    let x = c .before .before .xyb .given .0 .0 in
+    let e : SpanIs l (1 + g * 15 + 1 + r * 40) 1 (Whole x) = known l (1 + g * 15 + 1 + r * 40) 1 (c .before .before .xyb .given .1) (c .before .before .before .before .section-at3 .ensures) in
+    let all : 3 + g * 15 + r * 40 + x ≡ length l = omega (arith, e .1) in
+    record { by = all-there l g a r d x e all; filled = (all, a .2, d .2, e .2) }
+
+pub section-counts-spec : {M : Type 1} → statement M
+section-counts-spec =
+    tie.close
+    (tie.spec
+    section-at-requires
+    enum-known-gray
+    enum-told
+    returns
+    mul-rgb-at
+    add-rgb-at
+    section-at-requires-2
+    enum-known-rgb
+    enum-told-2
+    returns-2
+    add-xyb-at
+    mul-xyb-at
+    add-xyb-at-2
+    section-at-requires-3
+    enum-known-xyb
+    enum-told-3
+    returns-3
+    add-if1
+    mul-if1
+    add-if1-2
+    returns-4
+    returns-5)

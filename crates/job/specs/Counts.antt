@@ -1,0 +1,47 @@
+-- What the numbers of entries in the three sections say of a job of one-byte counts. Assumes nothing.
+use Prim.Native.Nat.{ℕ, _+_, _*_, _≤_, _<_}
+use mathlib.Core.Path.{_≡_}
+use mathlib.Core.List.{List, [], _∷_, _++_}
+use lib.ListN.{length, drop}
+use Rattle.buffer.specs.Checked.{Checked, is, refused, then}
+use Rattle.color_encoding.specs.declared.JxlColorEncoding.{JxlColorEncoding}
+use Rattle.job.specs.Job.{Section, Entry, gray, rgb, xyb, sections, entriesFrom, count, cut, told}
+use Rattle.job.specs.declared.EntryAnswer.{EntryAnswer}
+use Rattle.job.specs.declared.Span.{Span}
+use Rattle.job.specs.declared.Span.the-variants as S
+use Rattle.job.specs.declared.Counts.{Counts}
+use Rattle.job.specs.declared.Counts.the-variants as C
+
+-- the section whose count stands at a place of a job, with entries of so many bytes: as many as the count says, or not all there
+abbrev pub SpanIs : List ℕ → ℕ → ℕ → Span → Type 0
+SpanIs l at size (S.Whole n) = (count 1 (drop at l) ≡ n) × (at + (1 + n * size) ≤ length l) × (n < 256)
+SpanIs l at size S.Early = length l < at + (1 + count 1 (drop at l) * size)
+
+-- the entries of a job with g gray, r RGB and x XYB entries
+abbrev pub entriesBy : List ℕ → ℕ → ℕ → ℕ → List Entry
+entriesBy l g r x =
+    entriesFrom gray 1 g (drop 1 l) ++ (entriesFrom rgb 1 r (drop (2 + g * 15) l) ++ (entriesFrom xyb 1 x (drop (3 + g * 15 + r * 40) l) ++ []))
+
+abbrev pub cutBy : List ℕ → Counts → Checked (List Entry)
+cutBy l (C.Whole g r x) = is (entriesBy l g r x)
+cutBy l (C.Refused k) = refused k
+
+-- the sections fill the job
+abbrev pub Filled : List ℕ → Counts → Type 0
+Filled l (C.Whole g r x) = (3 + g * 15 + r * 40 + x ≡ length l) × (g < 256) × (r < 256) × (x < 256)
+Filled l (C.Refused k) = Unit {0}
+
+pub record Counted (l : List ℕ) (c : Counts) : Type 0 where
+  pub by : cut 1 sections l ≡ cutBy l c
+  pub filled : Filled l c
+
+-- a job that ends where its sections do, with n entries
+pub record Sized (n : ℕ) (c : Checked (List Entry)) : Type 0 where
+  pub entries : List Entry
+  pub given : c ≡ is entries
+  pub size : length entries ≡ n
+  pub small : n < 768
+
+-- an entry at a place of a section, with what its bytes mean
+abbrev pub toldOf : ℕ → ℕ → Checked JxlColorEncoding → EntryAnswer
+toldOf s k c = told (then c (λ e. is (record { section = s; place = k; encoding = e })))

@@ -1,0 +1,135 @@
+-- A job of bytes has at most 765 entries, and each is fair. Assumes nothing.
+use Prim.Native.Nat.{ℕ, zero, suc, _+_, _*_, _-_, _≤_, _<_}
+use mathlib.Core.Path.{_≡_, refl, sym, ap, subst, _∙_}
+use mathlib.Core.Bool.{Bool, true, false, cond}
+use mathlib.Core.List.{List, [], _∷_, _++_, map}
+use native.Mathlib.Omega.{arith}
+use borrow.Author.Tests.{ltb-true, ltb-false, leb-true}
+use lib.Dec.{ltb, leb, lit≤}
+use lib.ListN.{length, take, drop, getD, length-drop}
+use lib.Seq.{drop-drop}
+use Rattle.buffer.specs.All.{All, none, more}
+use Rattle.buffer.specs.Checked.{Checked, is, refused, then, each}
+use Rattle.buffer.specs.CheckedLaws.{both, never, each-length}
+use Rattle.job.specs.Job.{Section, Entry, gray, rgb, xyb, sections, entriesFrom, count, cut, meaning, job, entryAlone, grayEncoding, rgbEncoding, xybEncoding}
+use Rattle.job.specs.JobLaws.{alone-is}
+use Rattle.job.specs.Counts.{entriesBy, toldOf}
+use Rattle.job.specs.CountsLaws.{in-gray, in-rgb, in-xyb, past-all, length-entriesBy, all-there}
+use Rattle.job.specs.Longest.{Bytes, small}
+use Rattle.job.specs.Fair.{Fair, FairAnswer}
+use Rattle.job.specs.FairLaws.{held-gray, held-rgb, held-xyb, fair-told, fair-same}
+use Rattle.job.specs.declared.JobEntry.{JobEntry}
+use Rattle.job.specs.declared.EntryAnswer.{EntryAnswer}
+use Rattle.job.specs.declared.EntryAnswer.the-variants as E
+
+pub record FairJob (es : List JobEntry) : Type 0 where
+  pub all : All Fair es
+  pub few : length es ≤ 765
+
+-- ---- an entry at an index
+
+module _ (l : List ℕ) (g r x i : ℕ) (hg : g < 256) (hr : r < 256) (hx : x < 256) where
+  abbrev found : EntryAnswer
+  found = entryAlone (is (entriesBy l g r x)) i
+
+  fair-xyb : g ≤ i → r ≤ i - g → (b : Bool) → ltb (i - g - r) x ≡ b → FairAnswer found
+  fair-xyb a d true e =
+      let h : i - g - r < x = ltb-true _ _ e in
+      fair-same (in-xyb l g r x i a d h) (fair-told 3 (i - g - r + 1) (xybEncoding (take 1 (drop (3 + g * 15 + r * 40 + (i - g - r) * 1) l))) (lit≤ tt) (omega arith) (held-xyb _))
+  fair-xyb a d false e = fair-same (past-all l g r x i a d (ltb-false _ _ e)) tt
+
+  fair-rgb : g ≤ i → (b : Bool) → ltb (i - g) r ≡ b → FairAnswer found
+  fair-rgb a true e =
+      let h : i - g < r = ltb-true _ _ e in
+      fair-same (in-rgb l g r x i a h) (fair-told 2 (i - g + 1) (rgbEncoding (take 40 (drop (2 + g * 15 + (i - g) * 40) l))) (lit≤ tt) (omega arith) (held-rgb _))
+  fair-rgb a false e = fair-xyb a (ltb-false _ _ e) (ltb (i - g - r) x) refl
+
+  fair-gray : (b : Bool) → ltb i g ≡ b → FairAnswer found
+  fair-gray true e =
+      let h : i < g = ltb-true _ _ e in
+      fair-same (in-gray l g r x i h) (fair-told 1 (i + 1) (grayEncoding (take 15 (drop (1 + i * 15) l))) (lit≤ tt) (omega arith) (held-gray _))
+  fair-gray false e = fair-rgb (ltb-false _ _ e) (ltb (i - g) r) refl
+
+  pub fair-alone : FairAnswer found
+  fair-alone = fair-gray (ltb i g) refl
+
+-- ---- a job that is cut into sections
+
+-- the first section of a list and the rest
+record CutInto (w : ℕ) (s : Section) (ss : List Section) (l : List ℕ) : Type 0 where
+  fits : w + count w l * s .size ≤ length l
+  rest : List Entry
+  next : cut w ss (drop (w + count w l * s .size) l) ≡ is rest
+
+cut-into : (w : ℕ) (s : Section) (ss : List Section) (l : List ℕ) {es : List Entry} → cut w (s ∷ ss) l ≡ is es → CutInto w s ss l
+unfolding cut
+cut-into w s ss l {es} e = go (leb (w + count w l * s .size) (length l)) refl e
+  where
+    go : (b : Bool) → leb (w + count w l * s .size) (length l) ≡ b
+        → cond b (then (cut w ss (drop (w + count w l * s .size) l)) (λ rs. is (entriesFrom s 1 (count w l) (drop w l) ++ rs))) (refused 41) ≡ is es
+        → CutInto w s ss l
+    go true t e = let p = both (cut w ss (drop (w + count w l * s .size) l)) _ e in record { fits = leb-true _ _ t; rest = p .value; next = p .first }
+    go false t e = absurd (never e)
+
+nothing-left : (w : ℕ) (l : List ℕ) {es : List Entry} → cut w [] l ≡ is es → length l ≡ 0
+unfolding cut
+nothing-left w [] e = refl
+nothing-left w (b ∷ l) e = absurd (never e)
+
+-- the three counts of a job of bytes
+record Counts (l : List ℕ) : Type 0 where
+  g : ℕ
+  r : ℕ
+  x : ℕ
+  gray-few : g < 256
+  rgb-few : r < 256
+  xyb-few : x < 256
+  whole : cut 1 sections l ≡ is (entriesBy l g r x)
+
+counts : (l : List ℕ) → Bytes l → {es : List Entry} → cut 1 sections l ≡ is es → Counts l
+counts l bytes e =
+    let a = cut-into 1 gray (rgb ∷ xyb ∷ []) l e in
+    let g = count 1 l in
+    let hg : g < 256 = small l bytes 0 (omega (arith, a .fits)) in
+    let b = cut-into 1 rgb (xyb ∷ []) (drop (1 + g * 15) l) (a .next) in
+    let r = count 1 (drop (1 + g * 15) l) in
+    let fits : 1 + g * 15 + (1 + r * 40) ≤ length l = omega (arith, a .fits, b .fits, length-drop (1 + g * 15) l) in
+    let hr : r < 256 = small l bytes (1 + g * 15) (omega arith) in
+    let third : 1 + g * 15 + (1 + r * 40) ≡ 1 + g * 15 + 1 + r * 40 = omega arith in
+    let same : drop (1 + r * 40) (drop (1 + g * 15) l) ≡ drop (1 + g * 15 + 1 + r * 40) l = drop-drop (1 + r * 40) (1 + g * 15) l ∙ ap (λ (n : ℕ). drop n l) third in
+    let d = cut-into 1 xyb [] (drop (1 + g * 15 + 1 + r * 40) l) (ap (cut 1 (xyb ∷ [])) (sym same) ∙ b .next) in
+    let x = count 1 (drop (1 + g * 15 + 1 + r * 40) l) in
+    let left = length-drop (1 + g * 15 + 1 + r * 40) l in
+    let ends : 1 + g * 15 + 1 + r * 40 + (1 + x * 1) ≤ length l = omega (arith, d .fits, left) in
+    let hx : x < 256 = small l bytes (1 + g * 15 + 1 + r * 40) (omega arith) in
+    let none-left = nothing-left 1 _ (d .next) in
+    let all : 3 + g * 15 + r * 40 + x ≡ length l = omega (arith, none-left, length-drop (1 + x * 1) (drop (1 + g * 15 + 1 + r * 40) l), left) in
+    record {
+      g = g;
+      r = r;
+      x = x;
+      gray-few = hg;
+      rgb-few = hr;
+      xyb-few = hx;
+      whole = all-there l g (refl, omega arith, hg) r (refl, fits, hr) x (refl, ends, hx) all;
+    }
+
+-- ---- the entries of a job
+
+is-one : {a b : List Entry} → _≡_ {A = Checked (List Entry)} (is a) (is b) → a ≡ b
+is-one e = cc
+
+all-fair : (es : List JobEntry) → ((i : ℕ) → FairAnswer (getD (map E.Is es) i E.Absent)) → All Fair es
+all-fair [] h = none
+all-fair (e ∷ es) h = more (h zero) (all-fair es (λ i. h (suc i)))
+
+pub fair-job : (l : List ℕ) → Bytes l → {xs : List JobEntry} → job 1 l ≡ is xs → FairJob xs
+unfolding job
+fair-job l bytes {xs} h =
+    let p = both (cut 1 sections l) (each meaning) h in
+    let n = counts l bytes (p .first) in
+    let fair : (i : ℕ) → FairAnswer (getD (map E.Is xs) i E.Absent) = λ i.
+        fair-same (sym (alone-is 1 l h i) ∙ ap (λ (c : Checked (List Entry)). entryAlone c i) (n .whole)) (fair-alone l (n .g) (n .r) (n .x) i (n .gray-few) (n .rgb-few) (n .xyb-few)) in
+    let same : p .value ≡ entriesBy l (n .g) (n .r) (n .x) = is-one (sym (p .first) ∙ n .whole) in
+    let size : length xs ≡ n .g + n .r + n .x = each-length meaning (p .value) xs (p .second) ∙ ap length same ∙ length-entriesBy l (n .g) (n .r) (n .x) in
+    record { all = all-fair xs fair; few = omega (arith, size, n .gray-few, n .rgb-few, n .xyb-few) }

@@ -1,0 +1,44 @@
+-- The longest job has 14,283 bytes, so whoever reads a job need not read more than 14,284 bytes: a longer input is refused 42, whatever it holds.
+-- Assumes nothing.
+use Prim.Native.Nat.{ℕ, zero, suc, _+_, _*_, _≤_, _<_}
+use mathlib.Core.Path.{_≡_, refl, sym, _∙_}
+use mathlib.Core.List.{List, [], _∷_}
+use native.Mathlib.Omega.{arith}
+use lib.ListN.{length, take, drop, getD}
+use lib.Seq.{length-take-le}
+use Rattle.buffer.specs.All.{All, none, more}
+use Rattle.buffer.specs.Checked.{refused}
+use Rattle.job.specs.Job.{sections, count, cut, job}
+use Rattle.job.specs.JobLaws.{cut-refused}
+use Rattle.job.specs.CountsLaws.{one-byte, bytes-left}
+
+-- a list of bytes, as a file or a lent slice is
+abbrev pub Bytes : List ℕ → Type 0
+Bytes l = All (λ (b : ℕ). b < 256) l
+
+byte-at : {l : List ℕ} → Bytes l → (i : ℕ) → i < length l → getD l i 0 < 256
+byte-at none i h = absurd (omega arith)
+byte-at (more p ps) zero h = p
+byte-at (more p ps) (suc i) h = byte-at ps i (omega arith)
+
+front : (n : ℕ) {l : List ℕ} → Bytes l → Bytes (take n l)
+front zero b = none
+front (suc n) none = none
+front (suc n) (more p ps) = more p (front n ps)
+
+pub small : (l : List ℕ) → Bytes l → (at : ℕ) → at < length l → count 1 (drop at l) < 256
+small l b at h = rw (one-byte l at h) (byte-at b at h)
+
+pub too-long : (l : List ℕ) → Bytes l → 14283 < length l → job 1 l ≡ refused 42
+too-long l b h =
+    let g = count 1 l in
+    let hg : g < 256 = small l b 0 (omega arith) in
+    let r = count 1 (drop (1 + g * 15) l) in
+    let hr : r < 256 = small l b (1 + g * 15) (omega arith) in
+    let x = count 1 (drop (1 + g * 15 + 1 + r * 40) l) in
+    let hx : x < 256 = small l b (1 + g * 15 + 1 + r * 40) (omega arith) in
+    cut-refused 1 l (bytes-left l g (refl, omega arith, hg) r (refl, omega arith, hr) x (refl, omega arith, hx) (omega arith))
+
+pub first-bytes : (l : List ℕ) → Bytes l → 14283 < length l → job 1 (take 14284 l) ≡ job 1 l
+first-bytes l b h =
+    too-long (take 14284 l) (front 14284 b) (rw (length-take-le 14284 l (omega arith)) (omega arith)) ∙ sym (too-long l b h)

@@ -1,0 +1,268 @@
+// The job of 01: colour encodings in three sections, gray, RGB and XYB, each after a one-byte count. The entries of a job are numbered from 0 on
+// over all sections. A refused job has no entries.
+
+use color_encoding::EncodingCode;
+use color_encoding::IntentCode;
+use color_encoding::JxlColorEncoding;
+use color_encoding::JxlPrimaries;
+use color_encoding::JxlTransferFunction;
+use color_encoding::JxlWhitePoint;
+use color_encoding::PrimariesCode;
+use color_encoding::RenderingIntent;
+use color_encoding::TransferFunctionCode;
+use color_encoding::WhitePointCode;
+ghost use mathlib.Core.Path.{_≡_};
+ghost use Prim.Native.Nat.{_≤_};
+ghost use Rattle.buffer.specs.Checked.{is};
+ghost use Rattle.color_encoding.specs.Codes.{knownEncoding};
+ghost use Rattle.job.specs.Job as Job;
+ghost use Rattle.job.specs.Job.{byteAt, floatAt, whiteAt, primariesAt, curveAt, intentAt, grayEncoding, rgbEncoding, xybEncoding};
+ghost use Rattle.job.specs.Job.{sections, cut, jobAnswer, entryAnswer, entryAlone};
+ghost use Rattle.job.specs.Counts.{SpanIs, Counted, Filled, entriesBy, toldOf, Sized};
+ghost use Rattle.job.specs.Fair.{FairAnswer};
+
+// An entry of a job: the number of its section (1 gray, 2 RGB, 3 XYB), its place there from 1 on, and what it means.
+pub struct JobEntry {
+    pub section: u32,
+    pub place: u32,
+    pub encoding: JxlColorEncoding,
+}
+
+// How many entries a job has, or why it is refused: 41, 42 or 43.
+pub enum JobAnswer {
+    Entries(u32),
+    Refused(u32),
+}
+
+// An entry of a job; none, where the job has fewer; or why the job is refused.
+pub enum EntryAnswer {
+    Is(JobEntry),
+    Absent,
+    Refused(u32),
+}
+
+// How many entries a section has, where they are all there.
+enum Span {
+    Whole(usize),
+    Early,
+}
+
+// How many entries each section has, or 41 or 42.
+enum Counts {
+    Whole {
+        gray: usize,
+        rgb: usize,
+        xyb: usize,
+    },
+    Refused(u32),
+}
+
+// The bytes of an entry.
+const GRAY_BYTES: usize = 15;
+const RGB_BYTES: usize = 40;
+const XYB_BYTES: usize = 1;
+
+// ---- the fields of an entry; a byte past its end counts 0
+
+fn byte_at(entry: &[u8], at: usize) -> u32
+    ensures { λ r. ⌜ r ≡ byteAt (now (entry .entry)) at ⌝ }
+{
+    if at < entry.len() { entry[at] as u32 } else { 0 }
+}
+
+fn float_at(entry: &[u8], at: usize) -> f32
+    ensures { λ r. ⌜ r ≡ floatAt (now (entry .entry)) at ⌝ }
+{
+    numbers::f32_from_bits(numbers::read_u32_be(entry, at))
+}
+
+fn white_at(entry: &[u8], at: usize) -> WhitePointCode
+    requires { ⌜ at ≤ 40 ⌝ }
+    ensures { λ r. ⌜ r ≡ whiteAt (now (entry .entry)) at ⌝ }
+{
+    JxlWhitePoint::from_number(
+        byte_at(entry, at),
+        float_at(entry, at + 1),
+        float_at(entry, at + 5),
+    )
+}
+
+fn primaries_at(entry: &[u8], at: usize) -> PrimariesCode
+    requires { ⌜ at ≤ 40 ⌝ }
+    ensures { λ r. ⌜ r ≡ primariesAt (now (entry .entry)) at ⌝ }
+{
+    JxlPrimaries::from_number(
+        byte_at(entry, at),
+        float_at(entry, at + 1),
+        float_at(entry, at + 5),
+        float_at(entry, at + 9),
+        float_at(entry, at + 13),
+        float_at(entry, at + 17),
+        float_at(entry, at + 21),
+    )
+}
+
+fn curve_at(entry: &[u8], at: usize) -> TransferFunctionCode
+    requires { ⌜ at ≤ 40 ⌝ }
+    ensures { λ r. ⌜ r ≡ curveAt (now (entry .entry)) at ⌝ }
+{
+    JxlTransferFunction::from_number(byte_at(entry, at), float_at(entry, at + 1))
+}
+
+fn intent_at(entry: &[u8], at: usize) -> IntentCode
+    ensures { λ r. ⌜ r ≡ intentAt (now (entry .entry)) at ⌝ }
+{
+    RenderingIntent::from_number(byte_at(entry, at))
+}
+
+// ---- the encoding that an entry's bytes mean
+
+pub fn gray_encoding(entry: &[u8]) -> EncodingCode
+    ensures { λ r. ⌜ knownEncoding r ≡ grayEncoding (now (entry .entry)) ⌝ }
+{
+    JxlColorEncoding::gray_from_codes(
+        white_at(entry, 0),
+        curve_at(entry, 9),
+        intent_at(entry, 14),
+    )
+}
+
+pub fn rgb_encoding(entry: &[u8]) -> EncodingCode
+    ensures { λ r. ⌜ knownEncoding r ≡ rgbEncoding (now (entry .entry)) ⌝ }
+{
+    JxlColorEncoding::rgb_from_codes(
+        white_at(entry, 0),
+        primaries_at(entry, 9),
+        curve_at(entry, 34),
+        intent_at(entry, 39),
+    )
+}
+
+pub fn xyb_encoding(entry: &[u8]) -> EncodingCode
+    ensures { λ r. ⌜ knownEncoding r ≡ xybEncoding (now (entry .entry)) ⌝ }
+{
+    JxlColorEncoding::xyb_from_code(intent_at(entry, 0))
+}
+
+// ---- sections
+
+// The section whose count stands at a place, with entries of so many bytes.
+fn section_at(job: &[u8], at: usize, size: usize) -> Span
+    requires { ⌜ size ≤ 40 ⌝ }
+    ensures { λ r. ⌜ SpanIs (now (job .entry)) at size r ⌝ }
+{
+    if at < job.len() {
+        let n = job[at] as usize;
+        if n * size < job.len() - at {
+            return Span::Whole(n);
+        }
+    }
+    Span::Early
+}
+
+fn section_counts(job: &[u8]) -> Counts
+    ensures { λ r. ⌜ Counted (now (job .entry)) r ⌝ }
+{
+    let Span::Whole(gray) = section_at(job, 0, GRAY_BYTES) else {
+        return Counts::Refused(41);
+    };
+    let rgb_at = 1 + gray * GRAY_BYTES;
+    let Span::Whole(rgb) = section_at(job, rgb_at, RGB_BYTES) else {
+        return Counts::Refused(41);
+    };
+    let xyb_at = rgb_at + 1 + rgb * RGB_BYTES;
+    let Span::Whole(xyb) = section_at(job, xyb_at, XYB_BYTES) else {
+        return Counts::Refused(41);
+    };
+    if xyb_at + 1 + xyb * XYB_BYTES < job.len() {
+        return Counts::Refused(42);
+    }
+    Counts::Whole { gray, rgb, xyb }
+}
+
+// ---- entries
+
+fn answered(section: u32, place: usize, code: EncodingCode) -> EntryAnswer
+    requires { ⌜ place ≤ 256 ⌝ }
+    ensures { λ r. ⌜ r ≡ toldOf section place (knownEncoding code) ⌝ }
+{
+    match code {
+        EncodingCode::Known(encoding) => EntryAnswer::Is(JobEntry {
+            section,
+            place: place as u32,
+            encoding,
+        }),
+        EncodingCode::Unknown => EntryAnswer::Refused(43),
+    }
+}
+
+// The i-th entry, of a job whose counts are known.
+fn entry_by(job: &[u8], gray: usize, rgb: usize, xyb: usize, i: usize) -> EntryAnswer
+    requires { ⌜ Filled (now job) (Counts.Whole gray rgb xyb) ⌝ }
+    ensures { λ r. ⌜ r ≡ entryAlone (is (entriesBy (now (job .entry)) gray rgb xyb)) i ⌝ }
+    ensures { λ r. ⌜ FairAnswer r ⌝ }
+{
+    if i < gray {
+        let at = 1 + i * GRAY_BYTES;
+        return answered(1, i + 1, gray_encoding(&job[at..at + GRAY_BYTES]));
+    }
+    let j = i - gray;
+    if j < rgb {
+        let at = 2 + gray * GRAY_BYTES + j * RGB_BYTES;
+        return answered(2, j + 1, rgb_encoding(&job[at..at + RGB_BYTES]));
+    }
+    let k = j - rgb;
+    if k < xyb {
+        let at = 3 + gray * GRAY_BYTES + rgb * RGB_BYTES + k * XYB_BYTES;
+        return answered(3, k + 1, xyb_encoding(&job[at..at + XYB_BYTES]));
+    }
+    EntryAnswer::Absent
+}
+
+// The i-th entry by itself: a job with another entry that has no meaning is not refused here. It costs no walk over the job.
+pub fn entry_alone(job: &[u8], i: usize) -> EntryAnswer
+    ensures { λ r. ⌜ r ≡ entryAlone (cut 1 sections (now (job .entry))) i ⌝ }
+    ensures { λ r. ⌜ FairAnswer r ⌝ }
+{
+    match section_counts(job) {
+        Counts::Whole { gray, rgb, xyb } => entry_by(job, gray, rgb, xyb, i),
+        Counts::Refused(number) => EntryAnswer::Refused(number),
+    }
+}
+
+// ---- the job
+
+// A job of n entries, each looked at in turn.
+fn walk(job: &[u8], n: usize) -> JobAnswer
+    requires { ⌜ Sized n (cut 1 sections (now job)) ⌝ }
+    ensures { λ r. ⌜ r ≡ jobAnswer (Job.job 1 (now (job .entry))) ⌝ }
+{
+    let mut i = 0usize;
+    while i < n {
+        if let EntryAnswer::Refused(number) = entry_alone(job, i) {
+            return JobAnswer::Refused(number);
+        }
+        i += 1;
+    }
+    JobAnswer::Entries(n as u32)
+}
+
+// How many entries a job has, or its refusal.
+pub fn entries(job: &[u8]) -> JobAnswer
+    ensures { λ r. ⌜ r ≡ jobAnswer (Job.job 1 (now (job .entry))) ⌝ }
+{
+    match section_counts(job) {
+        Counts::Whole { gray, rgb, xyb } => walk(job, gray + rgb + xyb),
+        Counts::Refused(number) => JobAnswer::Refused(number),
+    }
+}
+
+// The i-th entry of a job, or the job's refusal.
+pub fn entry(job: &[u8], i: usize) -> EntryAnswer
+    ensures { λ r. ⌜ r ≡ entryAnswer (Job.job 1 (now (job .entry))) i ⌝ }
+{
+    match entries(job) {
+        JobAnswer::Entries(_) => entry_alone(job, i),
+        JobAnswer::Refused(number) => EntryAnswer::Refused(number),
+    }
+}
