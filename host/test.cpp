@@ -1,21 +1,25 @@
-// Calls the entries of include/merqyduk.h as a board would: the examples of 01, outputs of every length up to the profile's, outputs
-// that end at a page that may not be touched, and numbers without meaning. Writes the accepted profiles into the folder that it is given.
+// Calls the entries of include/merqyduk.h as a board would: the examples of 01, outputs of every length up to the profile's, outputs and jobs
+// that end at a page that may not be touched, numbers without meaning, and jobs that are cut or have bytes left. Writes the accepted profiles
+// into the folder that it is given.
 #include "merqyduk.h"
 
 #include <sys/mman.h>
 #include <unistd.h>
 
+#include <algorithm>
 #include <cmath>
 #include <cstdio>
 #include <cstdlib>
 #include <cstring>
 #include <functional>
 #include <limits>
+#include <memory>
 #include <string>
 #include <vector>
 
 namespace {
 
+using Bytes = std::vector<uint8_t>;
 using Call = std::function<uint32_t(uint8_t *, size_t)>;
 
 int tried = 0;
@@ -81,6 +85,20 @@ class Guarded {
     uint8_t *base_, *out_;
 };
 
+// The bytes between two such pages.
+std::shared_ptr<Guarded> guarded(const Bytes &bytes, bool at_end) {
+    auto kept = std::make_shared<Guarded>(bytes.size(), at_end);
+    std::copy(bytes.begin(), bytes.end(), kept->data());
+    return kept;
+}
+
+Call entry(const Bytes &job, size_t i) {
+    auto kept = guarded(job, true);
+    return [=, n = job.size()](uint8_t *out, size_t out_len) {
+        return merqyduk_job_profile(kept->data(), n, i, out, out_len);
+    };
+}
+
 void refuses(const std::string &name, uint32_t number, const Call &call) {
     for (size_t n : {size_t(0), size_t(1), size_t(503), size_t(1200), size_t(4096)}) {
         Guarded out(n, true);
@@ -131,6 +149,88 @@ std::string text(const std::vector<uint8_t> &f) {
     std::string letters;
     for (size_t i = 29; i < desc.size(); i += 2) letters += char(desc[i]);
     return letters;
+}
+
+// A job answers 0 and its number of entries, and has no entry past them; or it is refused, and with it each of its entries.
+void counts(const std::string &name, uint32_t entries, const Bytes &job) {
+    for (bool at_end : {false, true}) {
+        uint32_t told = 0xdeadbeefu;
+        expect(merqyduk_job(guarded(job, at_end)->data(), job.size(), &told) == 0, name + " is a job");
+        expect(told == entries, name + " has " + std::to_string(entries) + " entries");
+    }
+    refuses(name + " past its end", 0, entry(job, entries));
+    refuses(name + " far past its end", 0, entry(job, SIZE_MAX));
+}
+
+void refuses_job(const std::string &name, uint32_t number, const Bytes &job) {
+    for (bool at_end : {false, true}) {
+        uint32_t told = 0xdeadbeefu;
+        expect(merqyduk_job(guarded(job, at_end)->data(), job.size(), &told) == number,
+               name + " refused " + std::to_string(number));
+        expect(told == 0xdeadbeefu, name + " leaves the number of entries unchanged");
+    }
+    for (size_t i : {size_t(0), size_t(1), size_t(2), SIZE_MAX}) refuses(name, number, entry(job, i));
+}
+
+Bytes with(Bytes job, size_t at, uint8_t byte) {
+    job[at] = byte;
+    return job;
+}
+
+// The job of 01: one RGB entry, sRGB, and one XYB entry, Relative.
+Bytes example() { return with(with(with(with(Bytes(44), 1, 1), 36, 2), 42, 1), 43, 1); }
+
+void good_jobs(const Bytes &srgb) {
+    counts("the job of 01", 2, example());
+    expect(writes("entry 0", 504, entry(example(), 0)) == srgb, "entry 0 has the profile of sRGB");
+    refuses("entry 1", 2, entry(example(), 1));
+    counts("a job without entries", 0, Bytes(3));
+
+    // Two gray entries, Relative and PQ, one RGB and one XYB, in this order over all sections.
+    Bytes all = {2};
+    all.insert(all.end(), {0, 0, 0, 0, 0, 0, 0, 0, 0, 2, 0, 0, 0, 0, 1});
+    all.insert(all.end(), {0, 0, 0, 0, 0, 0, 0, 0, 0, 3, 0, 0, 0, 0, 1});
+    const Bytes rest = with(example(), 43, 0);
+    all.insert(all.end(), rest.begin() + 1, rest.end());
+    counts("a job of all sections", 4, all);
+    writes("its gray entry", 328, entry(all, 0));
+    refuses("its second gray entry", 1, entry(all, 1));
+    expect(writes("its RGB entry", 504, entry(all, 2)) == srgb, "the third entry has the profile of sRGB");
+    writes("its XYB entry", 720, entry(all, 3));
+
+    // The longest job is past the pages of Guarded.
+    Bytes longest(14283);
+    longest[0] = longest[3826] = longest[14027] = 255;
+    uint32_t told = 0;
+    expect(merqyduk_job(longest.data(), longest.size(), &told) == 0 && told == 765, "the longest job has 765 entries");
+    uint8_t out[1200];
+    expect(merqyduk_job_profile(longest.data(), longest.size(), 764, out, sizeof out) == 720, "its last is XYB");
+    expect(merqyduk_job_profile(longest.data(), longest.size(), 765, out, sizeof out) == 0, "it has no more");
+}
+
+void bad_jobs() {
+    for (size_t n = 0; n < 44; n++) {
+        const Bytes whole = example();
+        refuses_job("a job cut to " + std::to_string(n), 41, Bytes(whole.begin(), whole.begin() + n));
+    }
+    Bytes more = example();
+    more.push_back(0);
+    refuses_job("a job with a byte left", 42, more);
+    refuses_job("white 4 in a job", 43, with(example(), 2, 4));
+    refuses_job("primaries 4 in a job", 43, with(example(), 11, 4));
+    refuses_job("curve 7 in a job", 43, with(example(), 36, 7));
+    refuses_job("intent 4 in a job", 43, with(example(), 41, 4));
+    refuses_job("XYB intent 255 in a job", 43, with(example(), 43, 255));
+
+    // 41 and 42 come before 43 anywhere.
+    Bytes cut = with(example(), 41, 4);
+    cut.pop_back();
+    refuses_job("intent 4 in a cut job", 41, cut);
+    refuses_job("intent 4 in a job with a byte left", 42, with(more, 41, 4));
+
+    uint32_t told = 7;
+    expect(merqyduk_job(nullptr, 0, &told) == 41 && told == 7, "no job");
+    expect(merqyduk_job_profile(nullptr, 0, 0, nullptr, 0) == 41, "no job and no output");
 }
 
 void save(const std::string &folder, const std::string &name, const std::vector<uint8_t> &profile) {
@@ -192,6 +292,9 @@ int main(int argc, char **argv) {
     refuses("RGB intent 4", 43, rgb(3, 0, 0, 0, none, 3, 0, 4));
     refuses("XYB intent 4", 43, xyb(4));
     refuses("intent 2^32 - 1", 43, xyb(0xffffffffu));
+
+    good_jobs(srgb);
+    bad_jobs();
 
     std::printf("%d of %d\n", tried - failed, tried);
     return failed == 0 ? 0 : 1;

@@ -2,8 +2,9 @@
  *
  * Link target/staticlib/libhost.a (rt staticlib host).
  *
- * A call that writes answers the profile's length (284 to 1200), which stands at the front of the output; the rest of
- * the output is unchanged. Or it answers a refusal number (below 100), and all of the output is unchanged:
+ * A call that writes answers the length (284 to 1200) of the profile, which then stands at the front of the output; the
+ * rest of the output is unchanged. Or it answers a number below 100, and all of the output is unchanged:
+ *    0  the job has no such entry
  *    1  the curve is PQ or HLG
  *    2  XYB with an intent other than Perceptual
  *    3  gray with |wy| below 1e-12
@@ -13,9 +14,12 @@
  *    7  a number of a column, or of a gray white, does not fit
  *    8  the reciprocal of gamma does not fit
  *    9  the output is shorter than the profile
- *   43  a kind, curve or intent has no meaning (tested first)
+ *   41  the job ends early: a count or an entry is missing or cut
+ *   42  the job has bytes left after its third section
+ *   43  a kind, curve or intent has no meaning
+ * 41, 42 and 43 are tested first, in this order; then 0; then 1 to 9, in this order.
  *
- * out may be null where out_len is 0. */
+ * out may be null where out_len is 0, and job where job_len is 0. What a call writes to may not overlap the job. */
 #ifndef MERQYDUK_H
 #define MERQYDUK_H
 
@@ -69,6 +73,18 @@ uint32_t merqyduk_write_rgb(uint32_t white, float wx, float wy, uint32_t primari
                             size_t out_len);
 
 uint32_t merqyduk_write_xyb(uint32_t intent, uint8_t *out, size_t out_len);
+
+/* A job is a list of color encodings as bytes: three sections, gray, RGB and XYB, each a count of one byte and then as
+ * many entries. docs/JOB.md has the bytes; the numbers in them are those above. A job is refused as a whole: 41 and 42
+ * are tested over the whole job before 43 is tested anywhere. Each call looks at the whole job again. */
+
+/* Answers 0 and sets *entries to the number of entries of all sections. Or it answers 41, 42 or 43, and *entries is
+ * unchanged. */
+uint32_t merqyduk_job(const uint8_t *job, size_t job_len, uint32_t *entries);
+
+/* Writes the profile of entry i, counted from 0 over all sections. A refusal of another entry, 1 to 9, does not touch
+ * this one. */
+uint32_t merqyduk_job_profile(const uint8_t *job, size_t job_len, size_t i, uint8_t *out, size_t out_len);
 
 #ifdef __cplusplus
 }

@@ -1,27 +1,31 @@
-// The writer for C and C++: include/merqyduk.h declares these entries. An encoding comes as numbers, and the output is lent.
-// A call answers the profile's length (284 or more) or a refusal number (below 100), and then the output is unchanged.
-use color_encoding::IntentCode;
+// The writer and the job for C and C++: include/merqyduk.h declares these entries. An encoding comes as numbers, a job as bytes, and the output
+// is lent. A call that writes answers the profile's length (284 or more) or a number below 100, and then the output is unchanged.
+use color_encoding::EncodingCode;
 use color_encoding::JxlColorEncoding;
 use color_encoding::JxlPrimaries;
 use color_encoding::JxlTransferFunction;
 use color_encoding::JxlWhitePoint;
-use color_encoding::PrimariesCode;
 use color_encoding::RenderingIntent;
-use color_encoding::TransferFunctionCode;
-use color_encoding::WhitePointCode;
+use job::JobAnswer;
+use job_output::JobProfile;
 use writer::Profile;
-ghost use mathlib.Core.Path.{_≡_};
-ghost use lib.ListN.{length};
 ghost use Rattle.color_encoding.specs.Codes.{whitePointFrom, primariesFrom, transferFunctionFrom, intentFrom};
-ghost use Rattle.buffer.specs.Checked.{is};
-ghost use Rattle.host.specs.Host.{grayFrom, rgbFrom, xybFrom, answered, left};
+ghost use Rattle.color_encoding.specs.Codes.{knownEncoding, grayFrom, rgbFrom, xybFrom};
+ghost use Rattle.job.specs.Job as Job;
+ghost use Rattle.job.specs.Job.{jobAnswer, entryAnswer};
+ghost use Rattle.host.specs.Host.{Writes, CountsEntries, WritesEntry};
 
-fn write(encoding: JxlColorEncoding, out: &mut [u8]) -> u32
-    ensures { λ r. ⌜ (r ≡ answered (is encoding) (length (now (out .entry)))) × (now (out .exit) ≡ left (is encoding) (now (out .entry))) ⌝ }
+// ---- the profile of an encoding
+
+fn write(code: EncodingCode, out: &mut [u8]) -> u32
+    ensures { λ r. ⌜ Writes (knownEncoding code) (now (out .entry)) (now (out .exit)) r ⌝ }
 {
-    match writer::maybe_create_profile(encoding, out) {
-        Profile::Written(n) => n,
-        Profile::Refused(number) => number,
+    match code {
+        EncodingCode::Known(encoding) => match writer::maybe_create_profile(encoding, out) {
+            Profile::Written(n) => n,
+            Profile::Refused(number) => number,
+        },
+        EncodingCode::Unknown => 43,
     }
 }
 
@@ -35,23 +39,14 @@ pub extern "C" fn merqyduk_write_gray(
     intent: u32,
     out: &mut [u8],
 ) -> u32
-    ensures { λ r. ⌜ (r ≡ answered (grayFrom (whitePointFrom white wx wy) (transferFunctionFrom curve gamma) (intentFrom intent)) (length (now (out .entry)))) × (now (out .exit) ≡ left (grayFrom (whitePointFrom white wx wy) (transferFunctionFrom curve gamma) (intentFrom intent)) (now (out .entry))) ⌝ }
+    ensures { λ r. ⌜ Writes (grayFrom (whitePointFrom white wx wy) (transferFunctionFrom curve gamma) (intentFrom intent)) (now (out .entry)) (now (out .exit)) r ⌝ }
 {
-    let WhitePointCode::Known(w) = JxlWhitePoint::from_number(white, wx, wy) else {
-        return 43;
-    };
-    let TransferFunctionCode::Known(t) = JxlTransferFunction::from_number(curve, gamma) else {
-        return 43;
-    };
-    let IntentCode::Known(i) = RenderingIntent::from_number(intent) else {
-        return 43;
-    };
     write(
-        JxlColorEncoding::GrayscaleColorSpace {
-            white_point: w,
-            transfer_function: t,
-            rendering_intent: i,
-        },
+        JxlColorEncoding::gray_from_codes(
+            JxlWhitePoint::from_number(white, wx, wy),
+            JxlTransferFunction::from_number(curve, gamma),
+            RenderingIntent::from_number(intent),
+        ),
         out,
     )
 }
@@ -73,43 +68,52 @@ pub extern "C" fn merqyduk_write_rgb(
     intent: u32,
     out: &mut [u8],
 ) -> u32
-    ensures { λ r. ⌜ (r ≡ answered (rgbFrom (whitePointFrom white wx wy) (primariesFrom primaries rx ry gx gy bx by) (transferFunctionFrom curve gamma) (intentFrom intent)) (length (now (out .entry)))) × (now (out .exit) ≡ left (rgbFrom (whitePointFrom white wx wy) (primariesFrom primaries rx ry gx gy bx by) (transferFunctionFrom curve gamma) (intentFrom intent)) (now (out .entry))) ⌝ }
+    ensures { λ r. ⌜ Writes (rgbFrom (whitePointFrom white wx wy) (primariesFrom primaries rx ry gx gy bx by) (transferFunctionFrom curve gamma) (intentFrom intent)) (now (out .entry)) (now (out .exit)) r ⌝ }
 {
-    let WhitePointCode::Known(w) = JxlWhitePoint::from_number(white, wx, wy) else {
-        return 43;
-    };
-    let PrimariesCode::Known(p) = JxlPrimaries::from_number(primaries, rx, ry, gx, gy, bx, by)
-    else {
-        return 43;
-    };
-    let TransferFunctionCode::Known(t) = JxlTransferFunction::from_number(curve, gamma) else {
-        return 43;
-    };
-    let IntentCode::Known(i) = RenderingIntent::from_number(intent) else {
-        return 43;
-    };
     write(
-        JxlColorEncoding::RgbColorSpace {
-            white_point: w,
-            primaries: p,
-            transfer_function: t,
-            rendering_intent: i,
-        },
+        JxlColorEncoding::rgb_from_codes(
+            JxlWhitePoint::from_number(white, wx, wy),
+            JxlPrimaries::from_number(primaries, rx, ry, gx, gy, bx, by),
+            JxlTransferFunction::from_number(curve, gamma),
+            RenderingIntent::from_number(intent),
+        ),
         out,
     )
 }
 
 #[no_mangle]
 pub extern "C" fn merqyduk_write_xyb(intent: u32, out: &mut [u8]) -> u32
-    ensures { λ r. ⌜ (r ≡ answered (xybFrom (intentFrom intent)) (length (now (out .entry)))) × (now (out .exit) ≡ left (xybFrom (intentFrom intent)) (now (out .entry))) ⌝ }
+    ensures { λ r. ⌜ Writes (xybFrom (intentFrom intent)) (now (out .entry)) (now (out .exit)) r ⌝ }
 {
-    let IntentCode::Known(i) = RenderingIntent::from_number(intent) else {
-        return 43;
-    };
     write(
-        JxlColorEncoding::XYB {
-            rendering_intent: i,
-        },
+        JxlColorEncoding::xyb_from_code(RenderingIntent::from_number(intent)),
         out,
     )
+}
+
+// ---- jobs
+
+#[no_mangle]
+pub extern "C" fn merqyduk_job(job: &[u8], entries: &mut u32) -> u32
+    ensures { λ r. ⌜ CountsEntries (jobAnswer (Job.job 1 (now (job .entry)))) (now (entries .entry)) (now (entries .exit)) r ⌝ }
+{
+    match job::entries(job) {
+        JobAnswer::Entries(n) => {
+            *entries = n;
+            0
+        }
+        JobAnswer::Refused(number) => number,
+    }
+}
+
+// The entries are numbered from 0 on, over all sections.
+#[no_mangle]
+pub extern "C" fn merqyduk_job_profile(job: &[u8], i: usize, out: &mut [u8]) -> u32
+    ensures { λ r. ⌜ WritesEntry (entryAnswer (Job.job 1 (now (job .entry))) i) (now (out .entry)) (now (out .exit)) r ⌝ }
+{
+    match job_output::profile(job, i, out) {
+        JobProfile::Written(n) => n,
+        JobProfile::Absent => 0,
+        JobProfile::Refused(number) => number,
+    }
 }

@@ -26,10 +26,10 @@ abbrev pub cutBy : List ℕ → Counts → Checked (List Entry)
 cutBy l (C.Whole g r x) = is (entriesBy l g r x)
 cutBy l (C.Refused k) = refused k
 
--- the sections fill the job
+-- the sections fill the job; or the number of a refusal
 abbrev pub Filled : List ℕ → Counts → Type 0
 Filled l (C.Whole g r x) = (3 + g * 15 + r * 40 + x ≡ length l) × (g < 256) × (r < 256) × (x < 256)
-Filled l (C.Refused k) = Unit {0}
+Filled l (C.Refused k) = k ≤ 43
 
 pub record Counted (l : List ℕ) (c : Counts) : Type 0 where
   pub by : cut 1 sections l ≡ cutBy l c

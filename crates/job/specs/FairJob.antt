@@ -1,4 +1,4 @@
--- A job of bytes has at most 765 entries, and each is fair. Assumes nothing.
+-- A job of bytes has at most 765 entries, and each is fair; the number of a refused one is at most 43. Assumes nothing.
 use Prim.Native.Nat.{ℕ, zero, suc, _+_, _*_, _-_, _≤_, _<_}
 use mathlib.Core.Path.{_≡_, refl, sym, ap, subst, _∙_}
 use mathlib.Core.Bool.{Bool, true, false, cond}
@@ -13,7 +13,8 @@ use Rattle.buffer.specs.Checked.{Checked, is, refused, then, each}
 use Rattle.buffer.specs.CheckedLaws.{both, never, each-length}
 use Rattle.job.specs.Job.{Section, Entry, gray, rgb, xyb, sections, entriesFrom, count, cut, meaning, job, entryAlone, grayEncoding, rgbEncoding, xybEncoding}
 use Rattle.job.specs.JobLaws.{alone-is}
-use Rattle.job.specs.Counts.{entriesBy, toldOf}
+use Rattle.job.specs.Counts.{Filled, entriesBy}
+use Rattle.job.specs.declared.Counts.the-variants as C
 use Rattle.job.specs.CountsLaws.{in-gray, in-rgb, in-xyb, past-all, length-entriesBy, all-there}
 use Rattle.job.specs.Longest.{Bytes, small}
 use Rattle.job.specs.Fair.{Fair, FairAnswer}
@@ -52,6 +53,11 @@ module _ (l : List ℕ) (g r x i : ℕ) (hg : g < 256) (hr : r < 256) (hx : x < 
 
   pub fair-alone : FairAnswer found
   fair-alone = fair-gray (ltb i g) refl
+
+-- what answers the i-th entry is that entry, and fair
+pub fair-entry : (l : List ℕ) (g r x i : ℕ) → Filled l (C.Whole g r x) → {a : EntryAnswer} → a ≡ entryAlone (is (entriesBy l g r x)) i
+    → (a ≡ entryAlone (is (entriesBy l g r x)) i) × FairAnswer a
+fair-entry l g r x i f e = (e, fair-same e (fair-alone l g r x i (f .1) (f .2) (f .3)))
 
 -- ---- a job that is cut into sections
 
@@ -129,7 +135,50 @@ fair-job l bytes {xs} h =
     let p = both (cut 1 sections l) (each meaning) h in
     let n = counts l bytes (p .first) in
     let fair : (i : ℕ) → FairAnswer (getD (map E.Is xs) i E.Absent) = λ i.
-        fair-same (sym (alone-is 1 l h i) ∙ ap (λ (c : Checked (List Entry)). entryAlone c i) (n .whole)) (fair-alone l (n .g) (n .r) (n .x) i (n .gray-few) (n .rgb-few) (n .xyb-few)) in
+    fair-same (sym (alone-is 1 l h i) ∙ ap (λ (c : Checked (List Entry)). entryAlone c i) (n .whole)) (fair-alone l (n .g) (n .r) (n .x) i (n .gray-few) (n .rgb-few) (n .xyb-few)) in
     let same : p .value ≡ entriesBy l (n .g) (n .r) (n .x) = is-one (sym (p .first) ∙ n .whole) in
     let size : length xs ≡ n .g + n .r + n .x = each-length meaning (p .value) xs (p .second) ∙ ap length same ∙ length-entriesBy l (n .g) (n .r) (n .x) in
     record { all = all-fair xs fair; few = omega (arith, size, n .gray-few, n .rgb-few, n .xyb-few) }
+
+-- ---- the number of a refused job
+
+then-refused : {A B : Type 0} (c : Checked A) (f : A → B) {k : ℕ} → then c (λ a. is (f a)) ≡ refused k → c ≡ refused k
+then-refused (is a) f h = absurd (never (sym h))
+then-refused (refused n) f h = cc
+
+cut-number : (w : ℕ) (ss : List Section) (l : List ℕ) {k : ℕ} → cut w ss l ≡ refused k → k ≤ 42
+unfolding cut
+cut-number w [] [] h = absurd (never (sym h))
+cut-number w [] (b ∷ l) {k} h = let same : 42 ≡ k = cc in omega arith
+cut-number w (s ∷ ss) l {k} h = go (cut-number w ss (drop (w + count w l * s .size) l)) (leb (w + count w l * s .size) (length l)) h
+  where
+    go : (cut w ss (drop (w + count w l * s .size) l) ≡ refused k → k ≤ 42) → (b : Bool)
+        → cond b (then (cut w ss (drop (w + count w l * s .size) l)) (λ es. is (entriesFrom s 1 (count w l) (drop w l) ++ es))) (refused 41) ≡ refused k → k ≤ 42
+    go later true h = later (then-refused (cut w ss (drop (w + count w l * s .size) l)) _ h)
+    go later false h = let same : 41 ≡ k = cc in omega arith
+
+record RefusedAt (es : List Entry) (k : ℕ) : Type 0 where
+  at : ℕ
+  found : entryAlone (is es) at ≡ E.Refused k
+
+refused-at : (es : List Entry) {k : ℕ} → each meaning es ≡ refused k → RefusedAt es k
+unfolding entryAlone
+refused-at [] h = absurd (never (sym h))
+refused-at (e ∷ es) {k} h = go (refused-at es) (meaning e) refl h
+  where
+    go : (each meaning es ≡ refused k → RefusedAt es k) → (c : Checked JobEntry) → meaning e ≡ c → then c (λ y. then (each meaning es) (λ ys. is (y ∷ ys))) ≡ refused k → RefusedAt (e ∷ es) k
+    go later (is y) q h = let r = later (then-refused (each meaning es) _ h) in record { at = suc (r .at); found = r .found }
+    go later (refused n) q h = let same : n ≡ k = cc in record { at = 0; found = rw q (ap E.Refused same) }
+
+pub job-refused : (l : List ℕ) → Bytes l → {k : ℕ} → job 1 l ≡ refused k → k ≤ 43
+unfolding job
+job-refused l bytes {k} h = go (cut 1 sections l) refl h
+  where
+    go : (c : Checked (List Entry)) → cut 1 sections l ≡ c → then c (each meaning) ≡ refused k → k ≤ 43
+    go (refused n) e h = let same : n ≡ k = cc in omega (arith, cut-number 1 sections l e)
+    go (is es) e h =
+        let n = counts l bytes e in
+        let same : es ≡ entriesBy l (n .g) (n .r) (n .x) = is-one (sym e ∙ n .whole) in
+        let at = refused-at es h in
+        let fair = fair-alone l (n .g) (n .r) (n .x) (at .at) (n .gray-few) (n .rgb-few) (n .xyb-few) in
+        rw (← same, at .found) at fair

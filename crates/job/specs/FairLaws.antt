@@ -1,13 +1,14 @@
--- Every entry of a job is fair. Assumes nothing.
+-- Every entry of a job is fair, and so is every answer. Assumes nothing.
 use Prim.Native.Nat.{ℕ, zero, suc, _+_, _≤_}
 use mathlib.Core.Path.{_≡_, sym, subst}
 use mathlib.Core.List.{List}
+use lib.Dec.{lit≤}
 use lib.ListN.{drop}
 use lib.Ieee.{Float, binary32}
 use lib.Ieee.Bits.{ofBits-fits}
 use Rattle.buffer.specs.Checked.{Checked, is, refused, then}
 use Rattle.numbers.specs.Words.{word32}
-use Rattle.color_encoding.specs.Codes.{whitePointFrom, primariesFrom, transferFunctionFrom, knownWhitePoint, knownPrimaries, knownTransferFunction, knownIntent}
+use Rattle.color_encoding.specs.Codes.{whitePointFrom, primariesFrom, transferFunctionFrom, intentFrom, knownWhitePoint, knownPrimaries, knownTransferFunction, knownIntent}
 use Rattle.color_encoding.specs.declared.RenderingIntent.{RenderingIntent}
 use Rattle.color_encoding.specs.declared.JxlColorEncoding.{JxlColorEncoding}
 use Rattle.text.specs.Held.{Held, HeldWhite, HeldPrimaries, HeldTransfer, HeldEncoding}
@@ -16,14 +17,14 @@ use Rattle.job.specs.Counts.{toldOf}
 use Rattle.job.specs.Fair.{FairAnswer}
 use Rattle.job.specs.declared.EntryAnswer.{EntryAnswer}
 
--- a value that a check gave, where it gave one
+-- a value that a check gave, or the number of its refusal
 abbrev Given : {A : Type 0} → (A → Type 0) → Checked A → Type 0
 Given P (is a) = P a
-Given P (refused k) = Unit {0}
+Given P (refused k) = k ≤ 43
 
 given-then : {A B : Type 0} (P : A → Type 0) (Q : B → Type 0) (c : Checked A) (f : A → Checked B) → Given P c → ((a : A) → P a → Given Q (f a)) → Given Q (then c f)
 given-then P Q (is a) f p h = h a p
-given-then P Q (refused k) f p h = tt
+given-then P Q (refused k) f p h = p
 
 -- ---- codes
 
@@ -32,7 +33,7 @@ held-white zero wx wy a b = tt
 held-white (suc zero) wx wy a b = tt
 held-white (suc (suc zero)) wx wy a b = tt
 held-white (suc (suc (suc zero))) wx wy a b = (a, b)
-held-white (suc (suc (suc (suc n)))) wx wy a b = tt
+held-white (suc (suc (suc (suc n)))) wx wy a b = lit≤ tt
 
 held-primaries : (n : ℕ) (rx ry gx gy bx by : Float) → Held rx → Held ry → Held gx → Held gy → Held bx → Held by
     → Given HeldPrimaries (knownPrimaries (primariesFrom n rx ry gx gy bx by))
@@ -40,7 +41,7 @@ held-primaries zero rx ry gx gy bx by a b c d e f = tt
 held-primaries (suc zero) rx ry gx gy bx by a b c d e f = tt
 held-primaries (suc (suc zero)) rx ry gx gy bx by a b c d e f = tt
 held-primaries (suc (suc (suc zero))) rx ry gx gy bx by a b c d e f = ((a, b), ((c, d), (e, f)))
-held-primaries (suc (suc (suc (suc n)))) rx ry gx gy bx by a b c d e f = tt
+held-primaries (suc (suc (suc (suc n)))) rx ry gx gy bx by a b c d e f = lit≤ tt
 
 held-curve : (n : ℕ) (g : Float) → Held g → Given HeldTransfer (knownTransferFunction (transferFunctionFrom n g))
 held-curve zero g a = tt
@@ -50,11 +51,14 @@ held-curve (suc (suc (suc zero))) g a = tt
 held-curve (suc (suc (suc (suc zero)))) g a = tt
 held-curve (suc (suc (suc (suc (suc zero))))) g a = tt
 held-curve (suc (suc (suc (suc (suc (suc zero)))))) g a = a
-held-curve (suc (suc (suc (suc (suc (suc (suc n))))))) g a = tt
+held-curve (suc (suc (suc (suc (suc (suc (suc n))))))) g a = lit≤ tt
 
-any : {A : Type 0} (c : Checked A) → Given (λ a. Unit {0}) c
-any (is a) = tt
-any (refused k) = tt
+any-intent : (n : ℕ) → Given (λ a. Unit {0}) (knownIntent (intentFrom n))
+any-intent zero = tt
+any-intent (suc zero) = tt
+any-intent (suc (suc zero)) = tt
+any-intent (suc (suc (suc zero))) = tt
+any-intent (suc (suc (suc (suc n)))) = lit≤ tt
 
 -- ---- entries
 
@@ -78,7 +82,7 @@ module _ (b : List ℕ) where
   held-gray =
       given-then HeldWhite HeldEncoding (knownWhitePoint (whiteAt b 0)) _ (white 0) (λ w hw.
       given-then HeldTransfer HeldEncoding (knownTransferFunction (curveAt b 9)) _ (curve 9) (λ t ht.
-      given-then (λ (i : RenderingIntent). Unit {0}) HeldEncoding (knownIntent (intentAt b 14)) _ (any (knownIntent (intentAt b 14))) (λ i hi.
+      given-then (λ (i : RenderingIntent). Unit {0}) HeldEncoding (knownIntent (intentAt b 14)) _ (any-intent (byteAt b 14)) (λ i hi.
       (hw, ht))))
 
   pub held-rgb : Given HeldEncoding (rgbEncoding b)
@@ -87,17 +91,17 @@ module _ (b : List ℕ) where
       given-then HeldWhite HeldEncoding (knownWhitePoint (whiteAt b 0)) _ (white 0) (λ w hw.
       given-then HeldPrimaries HeldEncoding (knownPrimaries (primariesAt b 9)) _ (primaries 9) (λ p hp.
       given-then HeldTransfer HeldEncoding (knownTransferFunction (curveAt b 34)) _ (curve 34) (λ t ht.
-      given-then (λ (i : RenderingIntent). Unit {0}) HeldEncoding (knownIntent (intentAt b 39)) _ (any (knownIntent (intentAt b 39))) (λ i hi.
+      given-then (λ (i : RenderingIntent). Unit {0}) HeldEncoding (knownIntent (intentAt b 39)) _ (any-intent (byteAt b 39)) (λ i hi.
       (hw, (hp, ht))))))
 
   pub held-xyb : Given HeldEncoding (xybEncoding b)
   unfolding xybEncoding
-  held-xyb = given-then (λ (i : RenderingIntent). Unit {0}) HeldEncoding (knownIntent (intentAt b 0)) _ (any (knownIntent (intentAt b 0))) (λ i hi. tt)
+  held-xyb = given-then (λ (i : RenderingIntent). Unit {0}) HeldEncoding (knownIntent (intentAt b 0)) _ (any-intent (byteAt b 0)) (λ i hi. tt)
 
 -- an entry at a place of a section
 pub fair-told : (s k : ℕ) (c : Checked JxlColorEncoding) → s ≤ 3 → k ≤ 255 → Given HeldEncoding c → FairAnswer (toldOf s k c)
 fair-told s k (is e) a b h = record { section = a; place = b; floats = h }
-fair-told s k (refused n) a b h = tt
+fair-told s k (refused n) a b h = h
 
 pub fair-same : {a b : EntryAnswer} → a ≡ b → FairAnswer b → FairAnswer a
 fair-same {a} {b} e h = subst (λ (x : EntryAnswer). FairAnswer x) (sym e) h

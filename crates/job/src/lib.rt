@@ -19,7 +19,7 @@ ghost use Rattle.job.specs.Job as Job;
 ghost use Rattle.job.specs.Job.{byteAt, floatAt, whiteAt, primariesAt, curveAt, intentAt, grayEncoding, rgbEncoding, xybEncoding};
 ghost use Rattle.job.specs.Job.{sections, cut, jobAnswer, entryAnswer, entryAlone};
 ghost use Rattle.job.specs.Counts.{SpanIs, Counted, Filled, entriesBy, toldOf, Sized};
-ghost use Rattle.job.specs.Fair.{FairAnswer};
+ghost use Rattle.job.specs.Fair.{FairAnswer, FewEntries};
 
 // An entry of a job: the number of its section (1 gray, 2 RGB, 3 XYB), its place there from 1 on, and what it means.
 pub struct JobEntry {
@@ -49,17 +49,15 @@ enum Span {
 
 // How many entries each section has, or 41 or 42.
 enum Counts {
-    Whole {
-        gray: usize,
-        rgb: usize,
-        xyb: usize,
-    },
+    Whole { gray: usize, rgb: usize, xyb: usize },
     Refused(u32),
 }
 
 // The bytes of an entry.
 const GRAY_BYTES: usize = 15;
+
 const RGB_BYTES: usize = 40;
+
 const XYB_BYTES: usize = 1;
 
 // ---- the fields of an entry; a byte past its end counts 0
@@ -67,7 +65,11 @@ const XYB_BYTES: usize = 1;
 fn byte_at(entry: &[u8], at: usize) -> u32
     ensures { λ r. ⌜ r ≡ byteAt (now (entry .entry)) at ⌝ }
 {
-    if at < entry.len() { entry[at] as u32 } else { 0 }
+    if at < entry.len() {
+        entry[at] as u32
+    } else {
+        0
+    }
 }
 
 fn float_at(entry: &[u8], at: usize) -> f32
@@ -120,11 +122,7 @@ fn intent_at(entry: &[u8], at: usize) -> IntentCode
 pub fn gray_encoding(entry: &[u8]) -> EncodingCode
     ensures { λ r. ⌜ knownEncoding r ≡ grayEncoding (now (entry .entry)) ⌝ }
 {
-    JxlColorEncoding::gray_from_codes(
-        white_at(entry, 0),
-        curve_at(entry, 9),
-        intent_at(entry, 14),
-    )
+    JxlColorEncoding::gray_from_codes(white_at(entry, 0), curve_at(entry, 9), intent_at(entry, 14))
 }
 
 pub fn rgb_encoding(entry: &[u8]) -> EncodingCode
@@ -236,6 +234,7 @@ pub fn entry_alone(job: &[u8], i: usize) -> EntryAnswer
 fn walk(job: &[u8], n: usize) -> JobAnswer
     requires { ⌜ Sized n (cut 1 sections (now job)) ⌝ }
     ensures { λ r. ⌜ r ≡ jobAnswer (Job.job 1 (now (job .entry))) ⌝ }
+    ensures { λ r. ⌜ FewEntries r ⌝ }
 {
     let mut i = 0usize;
     while i < n {
@@ -250,6 +249,7 @@ fn walk(job: &[u8], n: usize) -> JobAnswer
 // How many entries a job has, or its refusal.
 pub fn entries(job: &[u8]) -> JobAnswer
     ensures { λ r. ⌜ r ≡ jobAnswer (Job.job 1 (now (job .entry))) ⌝ }
+    ensures { λ r. ⌜ FewEntries r ⌝ }
 {
     match section_counts(job) {
         Counts::Whole { gray, rgb, xyb } => walk(job, gray + rgb + xyb),

@@ -1,9 +1,12 @@
--- The number of what the writer answers. Assumes nothing.
-use mathlib.Core.Path.{sym, ap, _∙_}
+-- The number of what the writer answers, or 43 for a code without meaning. Assumes nothing.
+use mathlib.Core.Path.{refl, sym, ap, _∙_}
 use Rattle.host.specs.Host.{number, answered, left}
 use borrow.Author.Needs.{needs}
 use Rattle.host.proofs.write.Statement.{statement}
 use Rattle.host.proofs.write.Tie as tie
+
+enum-known-code : tie.Need-enum-known-code
+enum-known-code c = search needs
 
 maybe-create-profile-requires : tie.Need-maybe-create-profile-requires
 maybe-create-profile-requires c κs = search needs
@@ -14,6 +17,9 @@ enum-known-n c = search needs
 enum-known-number : tie.Need-enum-known-number
 enum-known-number c = search needs
 
+enum-told : tie.Need-enum-told
+enum-told c = search needs
+
 same-length : tie.Need-same-length
 same-length c = search needs
 
@@ -21,7 +27,8 @@ returns : tie.Need-returns
 unfolding answered left
 returns c =
     let call = c .before .before .before .before .before in
-    (ap number (sym (c .before .n .given .1) ∙ call .maybe-create-profile .ensures .0), call .maybe-create-profile .ensures .1)
+    rw (call .before .before .before .code .given .1)
+    (record { answer = ap number (sym (c .before .n .given .1) ∙ call .maybe-create-profile .ensures .0); output = call .maybe-create-profile .ensures .1 })
 
 same-length-2 : tie.Need-same-length-2
 same-length-2 c = search needs
@@ -30,16 +37,24 @@ returns-2 : tie.Need-returns-2
 unfolding answered left
 returns-2 c =
     let call = c .before .before .before .before .before in
-    (ap number (sym (c .before .number .given .1) ∙ call .maybe-create-profile .ensures .0), call .maybe-create-profile .ensures .1)
+    rw (call .before .before .before .code .given .1)
+    (record { answer = ap number (sym (c .before .number .given .1) ∙ call .maybe-create-profile .ensures .0); output = call .maybe-create-profile .ensures .1 })
+
+returns-3 : tie.Need-returns-3
+unfolding answered left
+returns-3 c = rw (c .enum-told .given .1) (record { answer = refl; output = refl })
 
 pub write-spec : {M : Type 1} → statement M
 write-spec =
     tie.close
     (tie.spec
+    enum-known-code
     maybe-create-profile-requires
     enum-known-n
     enum-known-number
+    enum-told
     same-length
     returns
     same-length-2
-    returns-2)
+    returns-2
+    returns-3)

@@ -2,11 +2,10 @@
 use Prim.Native.Nat.{ℕ, _+_, _*_, _-_}
 use mathlib.Core.Path.{_≡_, sym, ap, _∙_}
 use native.Mathlib.Omega.{arith}
-use lib.Dec.{lit≤}
 use lib.ListN.{take, drop}
 use Rattle.job.specs.Job.{grayEncoding, rgbEncoding, xybEncoding}
 use Rattle.job.specs.Counts.{toldOf}
-use Rattle.job.specs.FairLaws.{held-gray, held-rgb, held-xyb, fair-told, fair-same}
+use Rattle.job.specs.FairJob.{fair-entry}
 use Rattle.job.specs.CountsLaws.{in-gray, in-rgb, in-xyb, past-all}
 use borrow.Author.Needs.{needs}
 use Rattle.job.proofs.entry_by.Statement.{statement}
@@ -51,9 +50,8 @@ returns c =
     let x = c .before .before .before .before .before .args .xyb in
     let i = c .before .before .before .before .before .args .i in
     let here = c .answered .ensures ∙ ap (toldOf 1 (i + 1)) (c .before .gray-encoding .ensures)
-        ∙ ap (λ (n : ℕ). toldOf 1 (i + 1) (grayEncoding (take n (drop (1 + i * 15) l)))) (part (1 + i * 15) 15) in
-    let fair = fair-told 1 (i + 1) (grayEncoding (take 15 (drop (1 + i * 15) l))) (lit≤ tt) (omega (arith, c .before .before .before .before .before .pre .1)) (held-gray (take 15 (drop (1 + i * 15) l))) in
-    (here ∙ sym (in-gray l g r x i (omega arith)), fair-same here fair)
+    ∙ ap (λ (n : ℕ). toldOf 1 (i + 1) (grayEncoding (take n (drop (1 + i * 15) l)))) (part (1 + i * 15) 15) in
+    fair-entry l g r x i (c .before .before .before .before .before .pre) (here ∙ sym (in-gray l g r x i (omega arith)))
 
 mul-at-2 : tie.Need-mul-at-2
 mul-at-2 c = search needs
@@ -96,9 +94,8 @@ returns-2 c =
     let x = c .before .before .before .before .before .before .args .xyb in
     let i = c .before .before .before .before .before .before .args .i in
     let here = c .answered2 .ensures ∙ ap (toldOf 2 ((i - g) + 1)) (c .before .rgb-encoding .ensures)
-        ∙ ap (λ (n : ℕ). toldOf 2 ((i - g) + 1) (rgbEncoding (take n (drop (2 + g * 15 + (i - g) * 40) l)))) (part (2 + g * 15 + (i - g) * 40) 40) in
-    let fair = fair-told 2 ((i - g) + 1) (rgbEncoding (take 40 (drop (2 + g * 15 + (i - g) * 40) l))) (lit≤ tt) (omega (arith, c .before .before .before .before .before .before .pre .2)) (held-rgb (take 40 (drop (2 + g * 15 + (i - g) * 40) l))) in
-    (here ∙ sym (in-rgb l g r x i (omega arith) (omega arith)), fair-same here fair)
+    ∙ ap (λ (n : ℕ). toldOf 2 ((i - g) + 1) (rgbEncoding (take n (drop (2 + g * 15 + (i - g) * 40) l)))) (part (2 + g * 15 + (i - g) * 40) 40) in
+    fair-entry l g r x i (c .before .before .before .before .before .before .pre) (here ∙ sym (in-rgb l g r x i (omega arith) (omega arith)))
 
 mul-at-4 : tie.Need-mul-at-4
 mul-at-4 c = search needs
@@ -147,14 +144,14 @@ returns-3 c =
     let x = c .before .before .before .before .before .before .before .args .xyb in
     let i = c .before .before .before .before .before .before .before .args .i in
     let here = c .answered3 .ensures ∙ ap (toldOf 3 ((i - g - r) + 1)) (c .before .xyb-encoding .ensures)
-        ∙ ap (λ (n : ℕ). toldOf 3 ((i - g - r) + 1) (xybEncoding (take n (drop (3 + g * 15 + r * 40 + (i - g - r) * 1) l)))) (part (3 + g * 15 + r * 40 + (i - g - r) * 1) 1) in
-    let fair = fair-told 3 ((i - g - r) + 1) (xybEncoding (take 1 (drop (3 + g * 15 + r * 40 + (i - g - r) * 1) l))) (lit≤ tt) (omega (arith, c .before .before .before .before .before .before .before .pre .3)) (held-xyb (take 1 (drop (3 + g * 15 + r * 40 + (i - g - r) * 1) l))) in
-    (here ∙ sym (in-xyb l g r x i (omega arith) (omega arith) (omega arith)), fair-same here fair)
+    ∙ ap (λ (n : ℕ). toldOf 3 ((i - g - r) + 1) (xybEncoding (take n (drop (3 + g * 15 + r * 40 + (i - g - r) * 1) l)))) (part (3 + g * 15 + r * 40 + (i - g - r) * 1) 1) in
+    fair-entry l g r x i (c .before .before .before .before .before .before .before .pre) (here ∙ sym (in-xyb l g r x i (omega arith) (omega arith) (omega arith)))
 
 returns-4 : tie.Need-returns-4
 returns-4 c =
     let start = c .before .before .before .before .args in
-    (sym (past-all (start .job .now) (start .gray) (start .rgb) (start .xyb) (start .i) (omega arith) (omega arith) (omega arith)), tt)
+    fair-entry (start .job .now) (start .gray) (start .rgb) (start .xyb) (start .i) (c .before .before .before .before .pre)
+    (sym (past-all (start .job .now) (start .gray) (start .rgb) (start .xyb) (start .i) (omega arith) (omega arith) (omega arith)))
 
 pub entry-by-spec : {M : Type 1} → statement M
 entry-by-spec =

@@ -2,6 +2,7 @@
 use Prim.Native.Nat.{_+_, _*_}
 use mathlib.Core.Path.{_≡_}
 use native.Mathlib.Omega.{arith}
+use lib.Dec.{lit≤}
 use lib.ListN.{length}
 use Rattle.job.specs.Counts.{SpanIs}
 use Rattle.job.specs.CountsLaws.{early-gray, early-rgb, early-xyb, bytes-left, all-there}
@@ -23,7 +24,7 @@ enum-told c = search needs
 returns : tie.Need-returns
 returns c =
     let l = c .before .before .before .before .args .job .now in
-    record { by = early-gray l (known l 0 15 (c .enum-told .given .1) (c .before .before .section-at .ensures)); filled = tt }
+    record { by = early-gray l (known l 0 15 (c .enum-told .given .1) (c .before .before .section-at .ensures)); filled = lit≤ tt }
 
 mul-rgb-at : tie.Need-mul-rgb-at
 mul-rgb-at c =
@@ -53,7 +54,7 @@ returns-2 c =
     let l = c .before .before .before .before .before .before .before .before .args .job .now in
     let g = c .before .before .before .before .gray .given .0 .0 in
     let a : SpanIs l 0 15 (Whole g) = known l 0 15 (c .before .before .before .before .gray .given .1) (c .before .before .before .before .before .before .section-at .ensures) in
-    record { by = early-rgb l g a (known l (1 + g * 15) 40 (c .enum-told2 .given .1) (c .before .before .section-at2 .ensures)); filled = tt }
+    record { by = early-rgb l g a (known l (1 + g * 15) 40 (c .enum-told2 .given .1) (c .before .before .section-at2 .ensures)); filled = lit≤ tt }
 
 add-xyb-at : tie.Need-add-xyb-at
 add-xyb-at c =
@@ -98,7 +99,7 @@ returns-3 c =
     let a : SpanIs l 0 15 (Whole g) = known l 0 15 (c .before .before .before .before .before .before .before .before .gray .given .1) (c .before .before .before .before .before .before .before .before .before .before .section-at .ensures) in
     let r = c .before .before .before .before .rgb .given .0 .0 in
     let d : SpanIs l (1 + g * 15) 40 (Whole r) = known l (1 + g * 15) 40 (c .before .before .before .before .rgb .given .1) (c .before .before .before .before .before .before .section-at2 .ensures) in
-    record { by = early-xyb l g a r d (known l (1 + g * 15 + 1 + r * 40) 1 (c .enum-told3 .given .1) (c .before .before .section-at3 .ensures)); filled = tt }
+    record { by = early-xyb l g a r d (known l (1 + g * 15 + 1 + r * 40) 1 (c .enum-told3 .given .1) (c .before .before .section-at3 .ensures)); filled = lit≤ tt }
 
 add-if1 : tie.Need-add-if1
 add-if1 c =
@@ -134,7 +135,7 @@ returns-4 c =
     let d : SpanIs l (1 + g * 15) 40 (Whole r) = known l (1 + g * 15) 40 (c .before .before .before .before .before .before .rgb .given .1) (c .before .before .before .before .before .before .before .before .section-at2 .ensures) in
     let x = c .before .before .xyb .given .0 .0 in
     let e : SpanIs l (1 + g * 15 + 1 + r * 40) 1 (Whole x) = known l (1 + g * 15 + 1 + r * 40) 1 (c .before .before .xyb .given .1) (c .before .before .before .before .section-at3 .ensures) in
-    record { by = bytes-left l g a r d x e (omega arith); filled = tt }
+    record { by = bytes-left l g a r d x e (omega arith); filled = lit≤ tt }
 
 returns-5 : tie.Need-returns-5
 returns-5 c =

@@ -46,7 +46,7 @@ returns c =
     let start = c .before .before .before .before .before .before .before in
     let k = c .before .number .given .0 .0 in
     let found = sym (c .before .before .before .entry-alone .ensures .0) ∙ c .before .number .given .1 in
-    sym (ap jobAnswer (walk-stops 1 (start .args .job .now) (start .pre .entries) (start .pre .given) (c .before .before .before .before .before .loop .i) k found (c .before .before .before .before .before .loop .inv .1 (start .pre .entries) (start .pre .given))))
+    (sym (ap jobAnswer (walk-stops 1 (start .args .job .now) (start .pre .entries) (start .pre .given) (c .before .before .before .before .before .loop .i) k found (c .before .before .before .before .before .loop .inv .1 (start .pre .entries) (start .pre .given)))), rw (c .before .number .given .1) at (c .before .before .before .entry-alone .ensures .1))
 
 add-i : tie.Need-add-i Inv-loop μ-loop
 add-i c = omega arith
@@ -71,7 +71,7 @@ returns-2 c =
     let i = c .before .loop .i in
     let all : i ≡ start .args .n = omega arith in
     let passes : Passes (each meaning (take (start .args .n) (start .pre .entries))) = rw (← all) (c .before .loop .inv .1 (start .pre .entries) (start .pre .given)) in
-    sym (walk-ends 1 (start .args .job .now) (start .pre .entries) (start .pre .given) (start .args .n) (start .pre .size) passes)
+    (sym (walk-ends 1 (start .args .job .now) (start .pre .entries) (start .pre .given) (start .args .n) (start .pre .size) passes), start .pre .small)
 
 pub walk-spec : {M : Type 1} → statement M
 walk-spec =

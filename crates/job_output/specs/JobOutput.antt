@@ -1,0 +1,111 @@
+-- What the two job programs write (01, "The listing program"), and the profile of one entry. Assumes nothing.
+use Prim.Native.Nat.{ℕ}
+use mathlib.Core.Path.{_≡_}
+use mathlib.Core.Bool.{cond}
+use mathlib.Core.List.{List, [], _∷_, _++_, map}
+use lib.Dec.{leb}
+use lib.ListN.{length}
+use Rattle.buffer.specs.Ascii.{ascii}
+use Rattle.buffer.specs.Buffer.{put}
+use Rattle.buffer.specs.Checked.{Checked, is, refused}
+use Rattle.decimal.specs.Decimal.{digits}
+use Rattle.profile.specs.TagTypes.{join}
+use Rattle.profile.specs.Plan.{Plan}
+use Rattle.profile.specs.Layout.{layout}
+use Rattle.writer.specs.PlanOf.{planOf}
+use Rattle.writer.specs.Writer.{answer, output}
+use Rattle.writer.specs.declared.Profile.{Profile}
+use Rattle.writer.specs.declared.Profile.the-variants as P
+use Rattle.job.specs.Job.{jobAnswer}
+use Rattle.job.specs.declared.JobEntry.{JobEntry}
+use Rattle.job.specs.declared.JobAnswer.{JobAnswer}
+use Rattle.job.specs.declared.JobAnswer.the-variants as A
+use Rattle.job.specs.declared.EntryAnswer.{EntryAnswer}
+use Rattle.job.specs.declared.EntryAnswer.the-variants as E
+use Rattle.job_output.specs.declared.Stream.{Stream}
+use Rattle.job_output.specs.declared.Stream.the-variants as S
+use Rattle.job_output.specs.declared.Output.{Output}
+use Rattle.job_output.specs.declared.Output.the-variants as O
+use Rattle.job_output.specs.declared.JobProfile.{JobProfile}
+use Rattle.job_output.specs.declared.JobProfile.the-variants as J
+
+-- ---- an entry with enough output
+
+-- the length of its profile, or the refusal
+abbrev pub enough : Checked Plan → Profile
+enough (is p) = P.Written (length (layout p))
+enough (refused k) = P.Refused k
+
+-- its profile; of a refused entry nothing
+abbrev pub profileBytes : Checked Plan → List ℕ
+profileBytes (is p) = layout p
+profileBytes (refused k) = []
+
+-- ---- lines, each with its newline
+
+abbrev newline : List ℕ
+newline = 10 ∷ []
+
+abbrev pub lengthOrRefusal : Profile → List ℕ
+lengthOrRefusal (P.Written n) = digits n
+lengthOrRefusal (P.Refused k) = ascii "refused " ++ digits k
+
+-- section, entry from 1, and length or refusal
+unfoldable pub entryLine : JobEntry → List ℕ
+entryLine e = join (digits (e .section) ∷ ascii " " ∷ digits (e .place) ∷ ascii " " ∷ lengthOrRefusal (enough (planOf (e .encoding))) ∷ newline ∷ [])
+
+-- the number of entries; of a bad job only its refusal
+unfoldable pub firstLine : JobAnswer → List ℕ
+firstLine (A.Entries n) = join (ascii "profiles " ∷ digits n ∷ newline ∷ [])
+firstLine (A.Refused k) = join (ascii "job refused " ∷ digits k ∷ newline ∷ [])
+
+-- ---- the two outputs: what comes first, and what each entry adds
+
+abbrev pub headOf : Stream → JobAnswer → List ℕ
+headOf S.Listing a = firstLine a
+headOf S.Profiles a = []
+
+abbrev pub partOf : Stream → JobEntry → List ℕ
+partOf S.Listing e = entryLine e
+partOf S.Profiles e = profileBytes (planOf (e .encoding))
+
+abbrev pub partsOf : Stream → Checked (List JobEntry) → List (List ℕ)
+partsOf s (is es) = map (partOf s) es
+partsOf s (refused k) = []
+
+unfoldable pub outputOf : Stream → Checked (List JobEntry) → List ℕ
+outputOf s j = headOf s (jobAnswer j) ++ join (partsOf s j)
+
+-- the listing of a job, and its profiles one after another
+abbrev pub listing : Checked (List JobEntry) → List ℕ
+listing j = outputOf S.Listing j
+
+abbrev pub profiles : Checked (List JobEntry) → List ℕ
+profiles j = outputOf S.Profiles j
+
+-- ---- bytes put to the front of an output that is lent; 9 and nothing put where it is shorter
+
+pub record Lends (bytes before after : List ℕ) (r : Output) : Type 0 where
+  pub answer : r ≡ cond (leb (length bytes) (length before)) (O.Written (length bytes)) (O.Refused 9)
+  pub output : after ≡ cond (leb (length bytes) (length before)) (put before 0 bytes) before
+
+-- ---- the profile of one entry
+
+abbrev pub fromWriter : Profile → JobProfile
+fromWriter (P.Written n) = J.Written n
+fromWriter (P.Refused k) = J.Refused k
+
+-- as the writer answers to an output of n bytes
+abbrev pub profileAnswer : EntryAnswer → ℕ → JobProfile
+profileAnswer (E.Is e) n = fromWriter (answer (planOf (e .encoding)) n)
+profileAnswer E.Absent n = J.Absent
+profileAnswer (E.Refused k) n = J.Refused k
+
+abbrev pub profileOutput : EntryAnswer → List ℕ → List ℕ
+profileOutput (E.Is e) out = output (planOf (e .encoding)) out
+profileOutput E.Absent out = out
+profileOutput (E.Refused k) out = out
+
+pub record ProfileOf (a : EntryAnswer) (before after : List ℕ) (r : JobProfile) : Type 0 where
+  pub answer : r ≡ profileAnswer a (length before)
+  pub output : after ≡ profileOutput a before

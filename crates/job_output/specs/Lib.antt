@@ -1,0 +1,5 @@
+pub mod JobOutput
+pub mod Steps
+pub mod OutputLaws
+pub mod PartsLaws
+pub mod Most
