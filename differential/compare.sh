@@ -1,7 +1,7 @@
 #!/bin/sh
 # Builds the port as static libraries and tries it against the original.
 #
-#   differential/compare.sh leaves|writer COUNT [SEED]
+#   differential/compare.sh leaves|writer|jobs COUNT [SEED]
 #   differential/compare.sh bench
 #
 # SRC and OUT in the environment are the folders of build.sh, which this runs first.
@@ -21,7 +21,7 @@ cp -R "$here/../crates" "$out/port/crates"
 mkdir -p "$out/port/crates/leaves/src"
 cp "$here/leaves/lib.rt.in" "$out/port/crates/leaves/src/lib.rt"
 cp "$here/../crates.txt" "$out/port/crates.txt"
-echo "leaves: buffer numbers md5 linalg decimal text color_encoding colorimetry" >>"$out/port/crates.txt"
+echo "leaves: buffer numbers md5 linalg decimal text color_encoding colorimetry job job_output" >>"$out/port/crates.txt"
 (cd "$out/port" && rt staticlib leaves && rt staticlib host) >"$out/port.log"
 
 rm -rf "$out/compare"

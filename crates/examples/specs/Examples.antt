@@ -95,7 +95,7 @@ srgb-text = refl
 
 -- ---- profiles: the plan of an encoding, evaluated, and what the writer answers for an output of just its length
 
-abbrev srgb : RenderingIntent → JxlColorEncoding
+abbrev pub srgb : RenderingIntent → JxlColorEncoding
 srgb i = RgbColorSpace W.D65 P.SRGB F.SRGB i
 
 -- `chad` of D65, and the columns of SRGB under it
@@ -109,7 +109,7 @@ columnsSrgb = pos 28575 ∷ pos 14581 ∷ pos 912 ∷ pos 25238 ∷ pos 46983 �
 exact : {q : Checked Plan} (p : Plan) (n : ℕ) → q ≡ is p → length (layout p) ≡ n → answer q n ≡ Written n
 exact p n h e = ap (λ (c : Checked Plan). answer c n) h ∙ simp (e, le-leb n n (le-refl n))
 
-abbrev srgbPlan : ℕ → List ℕ → Plan
+abbrev pub srgbPlan : ℕ → List ℕ → Plan
 srgbPlan i t = rgbPlan i t (Named Name.SRGB) chadD65 columnsSrgb (Primaries 1)
 
 pub perceptual-plan : planOf (srgb Perceptual) ≡ is (srgbPlan 0 (ascii "sRGB"))

@@ -1,11 +1,11 @@
 -- What the numbers of entries in the three sections say of a job of one-byte counts. Assumes nothing.
 use Prim.Native.Nat.{ℕ, _+_, _*_, _≤_, _<_}
 use mathlib.Core.Path.{_≡_}
-use mathlib.Core.List.{List, [], _∷_, _++_}
+use mathlib.Core.List.{List, [], _++_}
 use lib.ListN.{length, drop}
 use Rattle.buffer.specs.Checked.{Checked, is, refused, then}
 use Rattle.color_encoding.specs.declared.JxlColorEncoding.{JxlColorEncoding}
-use Rattle.job.specs.Job.{Section, Entry, gray, rgb, xyb, sections, entriesFrom, count, cut, told}
+use Rattle.job.specs.Job.{Entry, gray, rgb, xyb, sections, entriesFrom, count, cut, told}
 use Rattle.job.specs.declared.EntryAnswer.{EntryAnswer}
 use Rattle.job.specs.declared.Span.{Span}
 use Rattle.job.specs.declared.Span.the-variants as S

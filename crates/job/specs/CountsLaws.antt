@@ -1,14 +1,14 @@
 -- The entries of a job from the three counts. Assumes nothing.
-use Prim.Native.Nat.{ℕ, suc, _+_, _*_, _-_, _≤_, _<_}
-use mathlib.Core.Path.{_≡_, refl, sym, ap, _∙_}
+use Prim.Native.Nat.{ℕ, _+_, _*_, _-_, _≤_, _<_}
+use mathlib.Core.Path.{_≡_, refl, ap, _∙_}
 use mathlib.Core.List.{List, [], _∷_, _++_, map}
 use native.Mathlib.Nat.{zero-add}
 use native.Mathlib.Omega.{arith}
 use lib.ListN.{length, take, drop, getD, length-append, length-drop}
 use lib.Seq.{drop-drop, drop-cons}
-use Rattle.buffer.specs.Checked.{Checked, is, refused, then}
+use Rattle.buffer.specs.Checked.{is, refused, then}
 use Rattle.job.specs.Job.{Section, Entry, gray, rgb, xyb, sections, entriesFrom, count, cut, meaning, told, entryAlone, grayEncoding, rgbEncoding, xybEncoding}
-use Rattle.job.specs.JobLaws.{cut-whole, cut-early, cut-end, cut-left, length-entriesFrom, entryAt, in-section, past-section}
+use Rattle.job.specs.JobLaws.{cut-whole, cut-early, cut-end, cut-left, length-entriesFrom, in-section, past-section}
 use Rattle.job.specs.Counts.{SpanIs, entriesBy, toldOf}
 use Rattle.job.specs.declared.Span.the-variants as S
 use Rattle.job.specs.declared.EntryAnswer.{EntryAnswer}

@@ -1,14 +1,14 @@
 -- The longest job has 14,283 bytes, so whoever reads a job need not read more than 14,284 bytes: a longer input is refused 42, whatever it holds.
 -- Assumes nothing.
-use Prim.Native.Nat.{ℕ, zero, suc, _+_, _*_, _≤_, _<_}
+use Prim.Native.Nat.{ℕ, zero, suc, _+_, _*_, _<_}
 use mathlib.Core.Path.{_≡_, refl, sym, _∙_}
-use mathlib.Core.List.{List, [], _∷_}
+use mathlib.Core.List.{List}
 use native.Mathlib.Omega.{arith}
 use lib.ListN.{length, take, drop, getD}
 use lib.Seq.{length-take-le}
 use Rattle.buffer.specs.All.{All, none, more}
 use Rattle.buffer.specs.Checked.{refused}
-use Rattle.job.specs.Job.{sections, count, cut, job}
+use Rattle.job.specs.Job.{count, job}
 use Rattle.job.specs.JobLaws.{cut-refused}
 use Rattle.job.specs.CountsLaws.{one-byte, bytes-left}
 

@@ -1,8 +1,8 @@
 -- How long the outputs of a job can be, so that a program can lend one that is long enough: a listing has at most 13 + 765 · 16 bytes, the profiles
 -- of a job at most 765 · 1,200. Assumes nothing.
-use Prim.Native.Nat.{ℕ, suc, _+_, _*_, _≤_}
+use Prim.Native.Nat.{ℕ, _+_, _*_, _≤_}
 use mathlib.Core.Path.{_≡_, refl}
-use mathlib.Core.List.{List, [], _∷_, map}
+use mathlib.Core.List.{List, map}
 use native.Mathlib.Omega.{arith}
 use lib.ListN.{length, length-append}
 use Rattle.buffer.specs.All.{All, none, more}
@@ -16,13 +16,13 @@ use Rattle.profile.specs.Layout.{layout}
 use Rattle.writer.specs.PlanOf.{planOf}
 use Rattle.writer_laws.specs.WrittenLength.{written-length}
 use Rattle.writer_laws.specs.RefusalNumbers.{refusal-number}
-use Rattle.job.specs.Job.{job, jobAnswer}
+use Rattle.job.specs.Job.{job}
 use Rattle.job.specs.Fair.{Fair}
 use Rattle.job.specs.Longest.{Bytes}
 use Rattle.job.specs.FairJob.{fair-job, job-refused}
 use Rattle.job.specs.declared.JobEntry.{JobEntry}
 use Rattle.job.specs.declared.JobAnswer.the-variants as A
-use Rattle.job_output.specs.JobOutput.{enough, lengthOrRefusal, entryLine, firstLine, partOf, outputOf, listing, profiles}
+use Rattle.job_output.specs.JobOutput.{enough, lengthOrRefusal, entryLine, partOf, outputOf, listing, profiles}
 use Rattle.job_output.specs.OutputLaws.{profile-most, length-place, entryLine-is, firstLine-is}
 use Rattle.job_output.specs.declared.Stream.{Stream}
 use Rattle.job_output.specs.declared.Stream.the-variants as S

@@ -1,5 +1,5 @@
 -- Laws of lines, and of the writer's answer with enough output. Assumes nothing.
-use Prim.Native.Nat.{ℕ, suc, _+_, _-_, _^_, _≤_, _<_}
+use Prim.Native.Nat.{ℕ, _+_, _-_, _≤_}
 use mathlib.Core.Path.{_≡_, refl, sym, ap, _∙_}
 use mathlib.Core.List.{List, [], _∷_, _++_, append-assoc, append-nil}
 use native.Mathlib.Nat.{zero-add}
@@ -8,14 +8,12 @@ use borrow.Author.Tests.{le-leb}
 use lib.ListN.{length, take, drop, replicate, length-append, length-replicate, length-drop, take-append-drop}
 use lib.Seq.{take-at, take-all, drop-length, drop-drop}
 use borrow.Rule.Slice.PartMut.{midOf, putMid}
-use Rattle.buffer.specs.Ascii.{ascii}
 use Rattle.buffer.specs.Buffer.{put}
 use Rattle.buffer.specs.Checked.{Checked, is, refused}
 use Rattle.buffer.specs.Puts.{Puts}
 use Rattle.buffer.specs.BufferLaws.{length-put, put-nothing}
 use Rattle.buffer.specs.PutsLaws.{in-front}
 use Rattle.color_encoding.specs.declared.JxlColorEncoding.{JxlColorEncoding}
-use Rattle.decimal.specs.Decimal.{digits}
 use Rattle.decimal.specs.DecimalLaws.{length-digits}
 use Rattle.text.specs.Held.{HeldEncoding}
 use Rattle.profile.specs.TagTypes.{join}

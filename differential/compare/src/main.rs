@@ -1,12 +1,13 @@
 //! Tries the port against the original on many inputs.
 //!
-//!   compare leaves|writer COUNT [SEED]
+//!   compare leaves|writer|jobs COUNT [SEED]
 //!   compare bench
 //!
-//! Each leaf, or the writer, is tried on COUNT inputs: the boundary cases first, then random ones
-//! that follow from the seed. Prints a line for each and fails if one answer differs. `bench` times
-//! the writer beside the original.
+//! Each leaf, the writer, or the calls on jobs are tried on COUNT inputs: the boundary cases first,
+//! then random ones that follow from the seed. Prints a line for each and fails if one answer
+//! differs. `bench` times the writer beside the original.
 
+mod jobs;
 mod port;
 
 use std::fmt::Debug;
@@ -120,29 +121,33 @@ fn leaves(run: &mut Run) {
 /// What the output holds before a call.
 const FILL: u8 = 0xa5;
 
-/// What a call of the writer on an output of `room` bytes answers and leaves in it.
+/// What a call on an output of `room` bytes answers and leaves in it.
 #[derive(Debug, PartialEq)]
 struct Written {
-    answer: u32,
+    answer: usize,
     output: Vec<u8>,
 }
 
-fn original(encoding: &Encoding, room: usize) -> Written {
-    let mut output = vec![FILL; room];
-    let answer = match answer::profile_within(encoding, room) {
-        Ok(profile) => {
-            output[..profile.len()].copy_from_slice(&profile);
-            profile.len() as u32
-        }
-        Err(number) => number,
-    };
-    Written { answer, output }
-}
+impl Written {
+    /// What is due where the original gives these bytes or this refusal.
+    fn due(given: Result<&[u8], u32>, room: usize) -> Self {
+        let mut output = vec![FILL; room];
+        let answer = match given.and_then(|bytes| answer::within(bytes, room)) {
+            Ok(bytes) => {
+                output[..bytes.len()].copy_from_slice(bytes);
+                bytes.len()
+            }
+            Err(number) => number as usize,
+        };
+        Self { answer, output }
+    }
 
-fn port(encoding: &Encoding, room: usize) -> Written {
-    let mut output = vec![FILL; room];
-    let answer = port::write(encoding, &mut output);
-    Written { answer, output }
+    /// What a call of the port gives.
+    fn by(call: impl FnOnce(&mut [u8]) -> usize, room: usize) -> Self {
+        let mut output = vec![FILL; room];
+        let answer = call(&mut output);
+        Self { answer, output }
+    }
 }
 
 /// Encodings, each with an output of 1,300 bytes or, one in eight, of any length up to 800.
@@ -159,8 +164,11 @@ fn writer(run: &mut Run) {
     run.leaf(
         "writer",
         calls,
-        |(encoding, room)| original(encoding, *room),
-        |(encoding, room)| port(encoding, *room),
+        |(encoding, room)| {
+            let profile = answer::profile(encoding);
+            Written::due(profile.as_deref().map_err(|number| *number), *room)
+        },
+        |(encoding, room)| Written::by(|out| port::write(encoding, out) as usize, *room),
     );
 }
 
@@ -201,9 +209,10 @@ fn main() {
     match what.as_str() {
         "leaves" => leaves(&mut run),
         "writer" => writer(&mut run),
+        "jobs" => jobs::jobs(&mut run),
         "bench" => bench(),
         _ => {
-            eprintln!("compare leaves|writer COUNT [SEED], or compare bench");
+            eprintln!("compare leaves|writer|jobs COUNT [SEED], or compare bench");
             std::process::exit(2);
         }
     }

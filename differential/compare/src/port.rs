@@ -1,4 +1,4 @@
-//! The port, through its static libraries: the leaves, and the writer by its C entries.
+//! The port, through its static libraries: the leaves, and the writer and jobs by its C entries.
 
 use judge::encoding::{Encoding, GRAY, RGB};
 use judge::leaves::{Linalg, Numbers, double_bits};
@@ -34,6 +34,25 @@ mod entries {
             out: *mut u8,
             len: usize,
         ) -> u32;
+        pub fn merqyduk_job(job: *const u8, job_len: usize, entries: *mut u32) -> u32;
+        pub fn merqyduk_job_profile(
+            job: *const u8,
+            job_len: usize,
+            i: usize,
+            out: *mut u8,
+            len: usize,
+        ) -> u32;
+        pub fn leaf_listing(job: *const u8, job_len: usize, out: *mut u8, len: usize) -> usize;
+        pub fn leaf_listing_length(job: *const u8, job_len: usize) -> usize;
+        pub fn leaf_profiles(job: *const u8, job_len: usize, out: *mut u8, len: usize) -> usize;
+        pub fn leaf_profiles_length(job: *const u8, job_len: usize) -> usize;
+        pub fn leaf_entry(
+            job: *const u8,
+            job_len: usize,
+            i: usize,
+            out: *mut u8,
+            len: usize,
+        ) -> usize;
         pub fn leaf_fixed(x: u32) -> u64;
         pub fn leaf_narrow(x: f64) -> u32;
         pub fn leaf_text(x: u32, out: *mut u8, len: usize) -> usize;
@@ -102,13 +121,17 @@ pub fn md5(data: &[u8]) -> Vec<u8> {
     written(|out, len| unsafe { entries::leaf_md5(data.as_ptr(), data.len(), out, len) })
 }
 
+fn word(bytes: &[u8]) -> u32 {
+    u32::from_be_bytes(bytes.try_into().expect("four bytes"))
+}
+
 /// The numbers that a call writes as big-endian bits.
 fn numbers<const N: usize>(mut call: impl FnMut(*mut u8, usize) -> u32) -> Numbers<N> {
     let mut out = [0u8; 64];
     let status = call(out.as_mut_ptr(), out.len());
     let mut bits = [0; N];
     for (bits, bytes) in bits.iter_mut().zip(out.chunks_exact(4)) {
-        *bits = u32::from_be_bytes(bytes.try_into().expect("four bytes"));
+        *bits = word(bytes);
     }
     Numbers { status, bits }
 }
@@ -181,5 +204,47 @@ pub fn write(encoding: &Encoding, out: &mut [u8]) -> u32 {
             ),
             _ => entries::merqyduk_write_xyb(intent, at, len),
         }
+    }
+}
+
+/// Whether the job is good: 0 and the number of entries, or a refusal and the number left as it was.
+pub fn job(job: &[u8], entries: &mut u32) -> u32 {
+    unsafe { entries::merqyduk_job(job.as_ptr(), job.len(), entries) }
+}
+
+/// The profile of an entry: a length, a refusal number below 100, or 0 where there is no such entry.
+pub fn job_profile(job: &[u8], i: usize, out: &mut [u8]) -> u32 {
+    let (at, len) = (out.as_mut_ptr(), out.len());
+    unsafe { entries::merqyduk_job_profile(job.as_ptr(), job.len(), i, at, len) }
+}
+
+/// The listing: its length, or 9.
+pub fn listing(job: &[u8], out: &mut [u8]) -> usize {
+    unsafe { entries::leaf_listing(job.as_ptr(), job.len(), out.as_mut_ptr(), out.len()) }
+}
+
+pub fn listing_length(job: &[u8]) -> usize {
+    unsafe { entries::leaf_listing_length(job.as_ptr(), job.len()) }
+}
+
+/// The profiles of a job: their length, or 9.
+pub fn profiles(job: &[u8], out: &mut [u8]) -> usize {
+    unsafe { entries::leaf_profiles(job.as_ptr(), job.len(), out.as_mut_ptr(), out.len()) }
+}
+
+pub fn profiles_length(job: &[u8]) -> usize {
+    unsafe { entries::leaf_profiles_length(job.as_ptr(), job.len()) }
+}
+
+/// An entry of a job by its index: its section, place and description; or the refusal, 0 where
+/// there is no such entry.
+pub fn entry(job: &[u8], i: usize) -> Result<(u32, u32, Vec<u8>), u32> {
+    let mut out = [0u8; 512];
+    let (at, len) = (out.as_mut_ptr(), out.len());
+    let letters = unsafe { entries::leaf_entry(job.as_ptr(), job.len(), i, at, len) };
+    let [first, second] = [0, 4].map(|at| word(&out[at..at + 4]));
+    match letters {
+        0 => Err(first),
+        _ => Ok((first, second, out[8..8 + letters].to_vec())),
     }
 }

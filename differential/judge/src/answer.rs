@@ -30,6 +30,12 @@ pub fn profile(encoding: &Encoding) -> Result<Vec<u8>, u32> {
 /// The same for an output of `room` bytes, which adds refusal 9.
 pub fn profile_within(encoding: &Encoding, room: usize) -> Result<Vec<u8>, u32> {
     let bytes = profile(encoding)?;
+    within(&bytes, room)?;
+    Ok(bytes)
+}
+
+/// The bytes, or refusal 9 where an output of `room` bytes is shorter.
+pub fn within(bytes: &[u8], room: usize) -> Result<&[u8], u32> {
     if bytes.len() > room {
         return Err(9);
     }

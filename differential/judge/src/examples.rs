@@ -1,9 +1,12 @@
-//! The examples of the scope ("Sheets to try") that concern the writer, and the numbers of its layout, each tried
-//! against the original.
+//! The examples of the scope ("Sheets to try") that concern the writer and jobs, and the numbers of the layout, each
+//! tried against the original.
 
 use crate::answer;
-use crate::encoding::{Curve, Encoding, Primaries, SRGB_CURVE, White};
+use crate::encoding::{Curve, Encoding, Primaries, White};
 use crate::inputs::colours::named_primaries;
+use crate::inputs::encodings::SRGB;
+use crate::inputs::job_cases;
+use crate::jobs;
 use crate::leaves;
 use crate::list::{MESSAGES, hex};
 
@@ -37,13 +40,9 @@ pub fn all() -> Vec<Example> {
     all.extend(layout());
     all.extend(curves());
     all.extend(vectors());
+    all.extend(listings());
     all
 }
-
-const SRGB: Curve = Curve {
-    kind: SRGB_CURVE,
-    gamma: 0,
-};
 
 fn srgb(intent: u8) -> Encoding {
     Encoding::rgb(White::named(0), Primaries::named(0), SRGB, intent)
@@ -276,6 +275,21 @@ fn vectors() -> Vec<Example> {
         Example::new(&name, expected, hex(&leaves::md5(message.as_bytes())))
     })
     .collect()
+}
+
+/// The listing that the scope prints whole, and the empty job.
+fn listings() -> Vec<Example> {
+    let job = job_cases::of_the_scope();
+    let listing = |job: &[u8]| jobs::listing(&jobs::answer(job)).replace('\n', "/");
+    vec![
+        Example::new("bytes of the job", "44", job.len().to_string()),
+        Example::new(
+            "listing of the job, with / for each end of a line",
+            "profiles 2/2 1 504/3 1 refused 2/",
+            listing(&job),
+        ),
+        Example::new("listing of an empty job", "job refused 41/", listing(&[])),
+    ]
 }
 
 fn profile(encoding: &Encoding) -> Vec<u8> {

@@ -6,5 +6,7 @@ pub mod bench;
 pub mod encoding;
 pub mod examples;
 pub mod inputs;
+pub mod job_list;
+pub mod jobs;
 pub mod leaves;
 pub mod list;

@@ -1,11 +1,11 @@
 //! The judge on the command line.
 
-use std::io::{BufRead, BufWriter, Write};
+use std::io::{BufRead, BufWriter, Read, Write};
 use std::process::ExitCode;
 
 use judge::encoding::{Curve, Encoding, Primaries, White};
 use judge::list::{self, Input, hex};
-use judge::{answer, bench, examples, leaves};
+use judge::{answer, bench, examples, job_list, jobs, leaves};
 
 const USAGE: &str = "\
 judge profile ENCODING [ROOM]  the profile, or the refusal; ROOM is the output's length
@@ -16,6 +16,8 @@ judge text FLOAT               a float as it is printed
 judge examples                   tries the numbers of the scope
 judge list [SEED]              writes the fixed list
 judge check < LIST             tries a list, line by line
+judge job < JOB                the listing of a job
+judge job-list [SEED]          writes the list of jobs
 judge bench                    times the four kinds of profile
 
 ENCODING is one of
@@ -60,6 +62,8 @@ fn run(command: &str, mut words: Words) -> Result<bool, String> {
         "examples" => return Ok(try_examples()),
         "list" => write_list(words.number_or(list::SEED)?)?,
         "check" => return check_list(),
+        "job" => show_listing()?,
+        "job-list" => print!("{}", job_list::text(words.number_or(list::SEED)?)),
         "bench" => {
             for (name, nanoseconds) in bench::original() {
                 println!("{name}: {nanoseconds:.0} ns");
@@ -128,6 +132,14 @@ fn check_list() -> Result<bool, String> {
         println!("{kind}: {good} of {all}");
     }
     Ok(kinds.iter().all(|(_, good, all)| good == all))
+}
+
+fn show_listing() -> Result<(), String> {
+    let mut job = Vec::new();
+    let read = std::io::stdin().lock().read_to_end(&mut job);
+    read.map_err(|error| error.to_string())?;
+    print!("{}", jobs::listing(&jobs::answer(&job)));
+    Ok(())
 }
 
 /// The words of the command line that are left.

@@ -6,7 +6,7 @@ use super::random::Random;
 use crate::answer;
 use crate::encoding::{Curve, Encoding, GAMMA, Primaries, SRGB_CURVE, White};
 
-const SRGB: Curve = Curve {
+pub const SRGB: Curve = Curve {
     kind: SRGB_CURVE,
     gamma: 0,
 };
@@ -33,7 +33,7 @@ pub fn boundary() -> Vec<Encoding> {
 }
 
 /// All combinations of the named kinds.
-fn named() -> Vec<Encoding> {
+pub fn named() -> Vec<Encoding> {
     let mut all = Vec::new();
     for intent in 0..4 {
         all.push(Encoding::xyb(intent));
@@ -353,22 +353,22 @@ pub fn encoding(random: &mut Random) -> Encoding {
         Encoding::rgb(white, primaries, curve, intent)
     };
     if random.percent(50) {
-        fill_unused(random, &mut encoding);
+        fill_unused(|| random.bits32(), &mut encoding);
     }
     encoding
 }
 
-/// Floats that a kind does not use may hold anything.
-fn fill_unused(random: &mut Random, encoding: &mut Encoding) {
+/// Floats that a kind does not use may hold any bits.
+pub fn fill_unused(mut bits: impl FnMut() -> u32, encoding: &mut Encoding) {
     if encoding.white.kind != crate::encoding::OWN {
-        encoding.white.wx = random.bits32();
-        encoding.white.wy = random.bits32();
+        encoding.white.wx = bits();
+        encoding.white.wy = bits();
     }
     if encoding.primaries.kind != crate::encoding::OWN {
-        encoding.primaries.xy = [0; 6].map(|_| random.bits32());
+        encoding.primaries.xy = [0; 6].map(|_| bits());
     }
     if encoding.curve.kind != GAMMA {
-        encoding.curve.gamma = random.bits32();
+        encoding.curve.gamma = bits();
     }
 }
 

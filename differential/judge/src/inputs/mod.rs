@@ -4,6 +4,8 @@
 pub mod colours;
 pub mod encodings;
 pub mod floats;
+pub mod job_cases;
+pub mod jobs;
 pub mod pieces;
 pub mod random;
 
@@ -13,16 +15,19 @@ use std::hash::Hash;
 pub use random::Random;
 
 /// `first`, without repeats, and then new ones from `next` until there are `count`.
-pub fn filled<T: Copy + Eq + Hash>(
+pub fn filled<T: Clone + Eq + Hash>(
     first: Vec<T>,
     count: usize,
     mut next: impl FnMut() -> T,
 ) -> Vec<T> {
     let mut seen = HashSet::new();
-    let mut all: Vec<T> = first.into_iter().filter(|one| seen.insert(*one)).collect();
+    let mut all: Vec<T> = first
+        .into_iter()
+        .filter(|one| seen.insert(one.clone()))
+        .collect();
     while all.len() < count {
         let one = next();
-        if seen.insert(one) {
+        if seen.insert(one.clone()) {
             all.push(one);
         }
     }

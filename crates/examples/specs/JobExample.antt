@@ -1,0 +1,48 @@
+-- The job of 44 bytes that 01 shows, evaluated on the definitions: its entries, and its listing. Assumes nothing.
+use Prim.Native.Nat.{ℕ}
+use mathlib.Core.Path.{_≡_, refl, ap, _∙_}
+use mathlib.Core.List.{List, [], _∷_, _++_}
+use lib.Ieee.{size}
+use Rattle.buffer.specs.Ascii.{ascii}
+use Rattle.buffer.specs.Checked.{is, refused}
+use Rattle.numbers.specs.Words.{word32}
+use Rattle.color_encoding.specs.declared.RenderingIntent.the-variants.{Perceptual, Relative}
+use Rattle.color_encoding.specs.declared.JxlColorEncoding.the-variants.{XYB}
+use Rattle.decimal.specs.Decimal.{digitsUpTo, digits}
+use Rattle.profile.specs.TagTypes.{join, zeros}
+use Rattle.profile.specs.Elements.{fileLength, start, bodySize, tagCount, padding}
+use Rattle.profile.specs.Shape.{slotsOf}
+use Rattle.profile.specs.LayoutLaws.{length-layout}
+use Rattle.writer.specs.PlanOf.{planOf}
+use Rattle.writer.specs.declared.Profile.the-variants.{Written, Refused}
+use Rattle.job.specs.Job.{entriesFrom, cut, grayEncoding, rgbEncoding, xybEncoding, job}
+use Rattle.job.specs.declared.JobEntry.{JobEntry}
+use Rattle.job_output.specs.JobOutput.{enough, firstLine, entryLine, outputOf, listing}
+use Rattle.examples.specs.Examples.{srgb, srgbPlan, perceptual-plan}
+
+-- no gray entry; the sRGB entry: white, primaries, curve and intent; one XYB entry, Relative
+abbrev job44 : List ℕ
+job44 = 0 ∷ 1 ∷ (zeros 9 ++ (zeros 25 ++ ((2 ∷ zeros 4) ++ (0 ∷ 1 ∷ 1 ∷ []))))
+
+abbrev entries44 : List JobEntry
+entries44 = record { section = 2; place = 1; encoding = srgb Perceptual } ∷ record { section = 3; place = 1; encoding = XYB Relative } ∷ []
+
+pub job-44 : job 1 job44 ≡ is entries44
+unfolding job cut entriesFrom grayEncoding rgbEncoding xybEncoding word32
+job-44 = refl
+
+first : enough (planOf (srgb Perceptual)) ≡ Written 504
+unfolding slotsOf fileLength start bodySize tagCount padding
+first = ap enough perceptual-plan ∙ ap Written (length-layout (srgbPlan 0 (ascii "sRGB")) (refl, refl))
+
+second : enough (planOf (XYB Relative)) ≡ Refused 2
+unfolding planOf
+second = refl
+
+pub listing-44 : listing (job 1 job44) ≡ ascii "profiles 2" ++ (10 ∷ ascii "2 1 504") ++ (10 ∷ ascii "3 1 refused 2") ++ (10 ∷ [])
+unfolding outputOf firstLine entryLine join digits digitsUpTo size
+listing-44 = ap listing job-44 ∙ rw (first, second)
+
+pub empty : job 1 [] ≡ refused 41
+unfolding job cut
+empty = refl
