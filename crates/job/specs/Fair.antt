@@ -1,6 +1,6 @@
 -- What callers may rely on in an answer. In an entry: a section's number, a place that a one-byte count reaches, floats that binary32 holds. In a
 -- number of entries: three sections of up to 255. In a refusal: 43 is the greatest. Assumes nothing.
-use Prim.Native.Nat.{_≤_, _<_}
+use Prim.Native.Nat.{_≤_}
 use Rattle.text.specs.Held.{HeldEncoding}
 use Rattle.job.specs.declared.JobEntry.{JobEntry}
 use Rattle.job.specs.declared.JobAnswer.{JobAnswer}
@@ -19,5 +19,5 @@ FairAnswer E.Absent = Unit {0}
 FairAnswer (E.Refused k) = k ≤ 43
 
 abbrev pub FewEntries : JobAnswer → Type 0
-FewEntries (A.Entries n) = n < 768
+FewEntries (A.Entries n) = n ≤ 765
 FewEntries (A.Refused k) = k ≤ 43

@@ -1,4 +1,4 @@
-// The job of 01: colour encodings in three sections, gray, RGB and XYB, each after a one-byte count. The entries of a job are numbered from 0 on
+// The job of 01: color encodings in three sections, gray, RGB and XYB, each after a one-byte count. The entries of a job are numbered from 0 on
 // over all sections. A refused job has no entries.
 
 use color_encoding::EncodingCode;
@@ -119,13 +119,13 @@ fn intent_at(entry: &[u8], at: usize) -> IntentCode
 
 // ---- the encoding that an entry's bytes mean
 
-pub fn gray_encoding(entry: &[u8]) -> EncodingCode
+fn gray_encoding(entry: &[u8]) -> EncodingCode
     ensures { λ r. ⌜ knownEncoding r ≡ grayEncoding (now (entry .entry)) ⌝ }
 {
     JxlColorEncoding::gray_from_codes(white_at(entry, 0), curve_at(entry, 9), intent_at(entry, 14))
 }
 
-pub fn rgb_encoding(entry: &[u8]) -> EncodingCode
+fn rgb_encoding(entry: &[u8]) -> EncodingCode
     ensures { λ r. ⌜ knownEncoding r ≡ rgbEncoding (now (entry .entry)) ⌝ }
 {
     JxlColorEncoding::rgb_from_codes(
@@ -136,7 +136,7 @@ pub fn rgb_encoding(entry: &[u8]) -> EncodingCode
     )
 }
 
-pub fn xyb_encoding(entry: &[u8]) -> EncodingCode
+fn xyb_encoding(entry: &[u8]) -> EncodingCode
     ensures { λ r. ⌜ knownEncoding r ≡ xybEncoding (now (entry .entry)) ⌝ }
 {
     JxlColorEncoding::xyb_from_code(intent_at(entry, 0))

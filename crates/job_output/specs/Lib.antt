@@ -3,3 +3,4 @@ pub mod Steps
 pub mod OutputLaws
 pub mod PartsLaws
 pub mod Most
+pub mod LendsLaws

@@ -25,7 +25,7 @@ pub record Good (l : List ℕ) (n : ℕ) : Type 0 where
   pub entries : List JobEntry
   pub given : job 1 l ≡ is entries
   pub size : length entries ≡ n
-  pub small : n < 768
+  pub small : n ≤ 765
 
 -- numbers of up to four digits
 abbrev pub Small : Profile → Type 0
