@@ -2,22 +2,18 @@
 use profile::Cicp;
 use profile::Curve;
 use profile::CurveName;
+use profile::Kind;
+use profile::Shape;
 ghost use mathlib.Core.Path.{_≡_};
+ghost use mathlib.Core.Bool.{cond};
 ghost use mathlib.Core.List.{_++_};
 ghost use Prim.Native.Nat.{_+_, _*_, _≤_};
 ghost use lib.ListN.{length, getD, take, drop};
 ghost use Rattle.numbers.specs.Words.{word32};
 ghost use Rattle.buffer.specs.Buffer.{put};
-ghost use Rattle.reading.specs.Recover.{kindFrom, numberIn, numbersFrom, lowBytes, nameBy, curveIn};
-ghost use Rattle.reading.specs.Tests.{same, isAscii, inRange, allInRange, curveInRange, cicpGood, goodLetters};
-ghost use Rattle.fields.specs.Kinds.{kindIs};
-
-// The three kinds of profile.
-pub enum Kind {
-    Gray,
-    Rgb,
-    Xyb,
-}
+ghost use Rattle.reading.specs.Table.{entriesOf};
+ghost use Rattle.reading.specs.Recover.{kindFrom, sizeAt, shapeFrom, numberIn, numbersFrom, lowBytes, nameBy, curveIn};
+ghost use Rattle.reading.specs.Tests.{same, isAscii, inRange, allInRange, curveInRange, cicpGood, lettersFor};
 
 // ---- tests
 
@@ -102,17 +98,6 @@ pub fn cicp_good(cicp: Cicp) -> bool
     }
 }
 
-// The letters of a text whose `desc` has so many bytes, and 0 where they are more than a plan has.
-pub fn good_letters(size: u32) -> usize
-    ensures { λ r. ⌜ r ≡ goodLetters size ⌝ }
-{
-    if size < 28 {
-        return 0;
-    }
-    let letters = (size - 28) / 2;
-    if letters <= 372 { letters as usize } else { 0 }
-}
-
 // ---- fields
 
 // The byte at a place.
@@ -138,7 +123,7 @@ pub fn number_at(file: &[u8], at: usize) -> i32
 
 // The kind that the first letters of class and space tell.
 pub fn kind_of(file: &[u8]) -> Kind
-    ensures { λ r. ⌜ kindIs r ≡ kindFrom (now (file .entry)) ⌝ }
+    ensures { λ r. ⌜ r ≡ kindFrom (now (file .entry)) ⌝ }
 {
     if byte_at(file, 12) == b's' {
         return Kind::Xyb;
@@ -147,6 +132,63 @@ pub fn kind_of(file: &[u8]) -> Kind
         return Kind::Gray;
     }
     Kind::Rgb
+}
+
+// The size that a line of the tag table states, and 0 where there is no such line.
+fn size_at(file: &[u8], line: usize) -> u32
+    requires { ⌜ line ≤ 8 ⌝ }
+    ensures { λ r. ⌜ r ≡ sizeAt (entriesOf (now (file .entry))) line ⌝ }
+{
+    if word_at(file, 128) as usize <= line {
+        return 0;
+    }
+    word_at(file, 140 + 12 * line)
+}
+
+// The letters of a text whose `desc` has so many bytes.
+fn letters_for(size: u32) -> usize
+    ensures { λ r. ⌜ r ≡ lettersFor size ⌝ }
+{
+    if size < 28 {
+        return 0;
+    }
+    ((size - 28) / 2) as usize
+}
+
+// The line of the curve of an RGB profile.
+fn curve_line(cicp: bool) -> usize
+    ensures { λ r. ⌜ (r ≡ cond cicp 8 7) × (r ≤ 8) ⌝ }
+{
+    if cicp { 8 } else { 7 }
+}
+
+// The shape that the tag table of a file of a kind can only have.
+pub fn shape_in(file: &[u8], kind: Kind) -> Shape
+    ensures { λ r. ⌜ r ≡ shapeFrom kind (entriesOf (now (file .entry))) ⌝ }
+{
+    match kind {
+        Kind::Gray => Shape {
+            kind: Kind::Gray,
+            letters: letters_for(size_at(file, 0)),
+            gamma: size_at(file, 3) == 16,
+            cicp: false,
+        },
+        Kind::Rgb => {
+            let cicp = word_at(file, 128) == 11;
+            Shape {
+                kind: Kind::Rgb,
+                letters: letters_for(size_at(file, 0)),
+                gamma: size_at(file, curve_line(cicp)) == 16,
+                cicp,
+            }
+        }
+        Kind::Xyb => Shape {
+            kind: Kind::Xyb,
+            letters: 7,
+            gamma: false,
+            cicp: false,
+        },
+    }
 }
 
 // Nine numbers, one after another.

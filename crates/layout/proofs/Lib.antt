@@ -3,3 +3,4 @@ pub mod TableParts
 pub mod KindParts
 pub mod Finish
 pub mod Front
+pub mod Shaped

@@ -10,8 +10,7 @@ use Rattle.numbers.specs.WordsLaws.{length-be32}
 use Rattle.buffer.specs.All.{none, more}
 use Rattle.profile.specs.Elements.{Slot, entry, entryBytes, entries, entriesBytes, padding, paddedSize, bodySize, tagCount, start, table}
 use Rattle.profile.specs.ElementsLaws.{lines-append, length-entriesBytes}
-use Rattle.profile.specs.Plan.{isGray, isRgb, isXyb}
-use Rattle.profile.specs.declared.Curve.{Curve}
+use Rattle.profile.specs.declared.Kind.the-variants.{Gray, Rgb, Xyb}
 use Rattle.profile.specs.TagTypes.{join}
 use Rattle.profile.specs.Signatures as Sig
 use Rattle.profile.specs.Shape
@@ -52,30 +51,26 @@ table-from n ss count o rest hc ho h =
 -- ---- gray
 
 pub gray-table : (n : ℕ) (g : Bool) (o m : ℕ) → o ≡ 180 + bodySize (first-slots n) → m ≡ Shape.curveSize g
-    → join ((be32 4 ++ lines 180 (first-slots n)) ∷ entryBytes (entry o m Sig.kTRC) ∷ []) ≡ table (Shape.slotsFor isGray n g false)
+    → join ((be32 4 ++ lines 180 (first-slots n)) ∷ entryBytes (entry o m Sig.kTRC) ∷ []) ≡ table (Shape.slotsFor Gray n g false)
 unfolding join entries entriesBytes tagCount
 gray-table n g o m ho hm =
     table-from n (Shape.one Sig.kTRC (Shape.curveSize g) ∷ []) 4 o (entryBytes (entry o m Sig.kTRC) ∷ []) refl ho
     (ap (λ (m : ℕ). entryBytes (entry o m Sig.kTRC) ++ []) hm)
 
-pub gray-start : (n : ℕ) (c : Curve) → start (Shape.slotsOf (Shape.grayShape n c)) ≡ 180
-unfolding Shape.slotsOf start tagCount
-gray-start n c = refl
+pub gray-start : (n : ℕ) (g : Bool) → start (Shape.slotsFor Gray n g false) ≡ 180
+unfolding start tagCount
+gray-start n g = refl
 
-pub gray-body : (n : ℕ) (g : Bool) → bodySize (Shape.slotsFor isGray n g false) ≡ bodySize (first-slots n) + Shape.curveSize g
+pub gray-body : (n : ℕ) (g : Bool) → bodySize (Shape.slotsFor Gray n g false) ≡ bodySize (first-slots n) + Shape.curveSize g
 unfolding bodySize padding
 gray-body n true = omega arith
 gray-body n false = omega arith
 
 -- ---- XYB
 
-pub xyb-start : start (Shape.slotsOf Shape.xybShape) ≡ 204
-unfolding Shape.slotsOf start tagCount
-xyb-start = refl
-
 pub xyb-table : (o : ℕ) → o ≡ 204 + bodySize (first-slots 7)
     → join ((be32 6 ++ lines 204 (first-slots 7)) ∷ entryBytes (entry o 44 Sig.chad) ∷ entryBytes (entry (o + 44) 292 Sig.A2B0)
-    ∷ entryBytes (entry (o + 44 + 292) 80 Sig.B2A0) ∷ []) ≡ table (Shape.slotsFor isXyb 7 false false)
+    ∷ entryBytes (entry (o + 44 + 292) 80 Sig.B2A0) ∷ []) ≡ table (Shape.slotsFor Xyb 7 false false)
 unfolding join entries entriesBytes tagCount padding
 xyb-table o ho =
     table-from 7 (Shape.one Sig.chad 44 ∷ Shape.one Sig.A2B0 292 ∷ Shape.one Sig.B2A0 80 ∷ []) 6 o
@@ -83,7 +78,7 @@ xyb-table o ho =
 
 -- ---- RGB
 
-rgb-count : (n : ℕ) (g v : Bool) → 10 + tagCount (Shape.cicpSlot v) ≡ tagCount (Shape.slotsFor isRgb n g v)
+pub rgb-count : (n : ℕ) (g v : Bool) → 10 + tagCount (Shape.cicpSlot v) ≡ tagCount (Shape.slotsFor Rgb n g v)
 unfolding tagCount
 rgb-count n g true = refl
 rgb-count n g false = refl
@@ -94,7 +89,7 @@ pub record Small (n : ℕ) (g v : Bool) : Type 0 where
   pub tags : tagCount (Shape.cicpSlot v) ≤ 1
   pub cicp : bodySize (Shape.cicpSlot v) ≤ 12
   pub curve : Shape.curveSize g ≤ 32
-  pub start : start (Shape.slotsFor isRgb n g v) ≡ 252 + 12 * tagCount (Shape.cicpSlot v)
+  pub start : start (Shape.slotsFor Rgb n g v) ≡ 252 + 12 * tagCount (Shape.cicpSlot v)
 
 pub small : (n : ℕ) (g v : Bool) → n ≤ 372 → Small n g v
 unfolding start tagCount bodySize padding
@@ -112,7 +107,7 @@ pub length-color-tags : (o n : ℕ) → length (lines o (Shape.colorSlots n)) �
 unfolding entries
 length-color-tags o n = length-entriesBytes _ (more refl (more refl (more refl (more refl (more refl (more refl none))))))
 
-pub rgb-body : (n : ℕ) (g v : Bool) → bodySize (Shape.slotsFor isRgb n g v) ≡ bodySize (first-slots n) + 104 + bodySize (Shape.cicpSlot v) + Shape.curveSize g
+pub rgb-body : (n : ℕ) (g v : Bool) → bodySize (Shape.slotsFor Rgb n g v) ≡ bodySize (first-slots n) + 104 + bodySize (Shape.cicpSlot v) + Shape.curveSize g
 unfolding bodySize padding
 rgb-body n true true = omega arith
 rgb-body n true false = omega arith
@@ -130,7 +125,7 @@ color-tags o n =
 pub rgb-table : (n : ℕ) (g v : Bool) (count o m s : ℕ) → count ≡ 10 + tagCount (Shape.cicpSlot v) → o ≡ 132 + 12 * count + bodySize (first-slots n)
     → m ≡ bodySize (Shape.cicpSlot v) → s ≡ Shape.curveSize g
     → join ((be32 count ++ lines (132 + 12 * count) (first-slots n)) ∷ entryBytes (entry o 44 Sig.chad) ∷ lines (o + 44) (Shape.cicpSlot v)
-    ∷ lines (o + 44 + m) (Shape.colorSlots s) ∷ []) ≡ table (Shape.slotsFor isRgb n g v)
+    ∷ lines (o + 44 + m) (Shape.colorSlots s) ∷ []) ≡ table (Shape.slotsFor Rgb n g v)
 unfolding join entries entriesBytes padding
 rgb-table n g v count o m s hc ho hm hs =
     table-from n (Shape.one Sig.chad 44 ∷ (Shape.cicpSlot v ++ Shape.colorSlots (Shape.curveSize g))) count o

@@ -6,9 +6,10 @@ ghost use lib.ListN.{length};
 ghost use Rattle.numbers.specs.Words.{be16, be32};
 ghost use Rattle.buffer.specs.Buffer.{put};
 ghost use Rattle.profile.specs.Signatures as Sig;
-ghost use Rattle.profile.specs.Plan.{Kind};
 ghost use Rattle.profile.specs.TagTypes.{join, zeros, s15Fixed16s};
-ghost use Rattle.profile.specs.Layout.{header, class, space, D50};
+ghost use Rattle.profile.specs.Layout.{header, D50};
+ghost use Rattle.profile.specs.Layout as Layout;
+use profile::Kind;
 use profile::elements::put_zeros;
 use profile::elements::write_icc_tag;
 
@@ -51,17 +52,31 @@ fn put_last_fields(out: &mut [u8])
     put_zeros(out, 84, 44);
 }
 
-// The class and the data color space are those of a kind of profile.
-pub fn create_icc_header(
-    out: &mut [u8],
-    size: u32,
-    profile_class: [u8; 4],
-    data_color_space: [u8; 4],
-)
-    requires { ⌜ 128 ≤ length (now out) ⌝ }
-    ensures { λ _. ⌜ ((k : Kind) → «profile_class» ≡ class k → «data_color_space» ≡ space k → now (out .exit) ≡ put (now (out .entry)) 0 (header k (record { size = size; intent = 0; id = zeros 16 }))) ⌝ }
+fn class(kind: Kind) -> [u8; 4]
+    ensures { λ r. ⌜ r ≡ Layout.class kind ⌝ }
 {
-    put_first_fields(out, size, profile_class, data_color_space);
+    match kind {
+        Kind::Gray => *b"mntr",
+        Kind::Rgb => *b"mntr",
+        Kind::Xyb => *b"scnr",
+    }
+}
+
+fn space(kind: Kind) -> [u8; 4]
+    ensures { λ r. ⌜ r ≡ Layout.space kind ⌝ }
+{
+    match kind {
+        Kind::Gray => *b"GRAY",
+        Kind::Rgb => *b"RGB ",
+        Kind::Xyb => *b"RGB ",
+    }
+}
+
+pub fn create_icc_header(out: &mut [u8], size: u32, kind: Kind)
+    requires { ⌜ 128 ≤ length (now out) ⌝ }
+    ensures { λ _. ⌜ now (out .exit) ≡ put (now (out .entry)) 0 (header kind (record { size = size; intent = 0; id = zeros 16 })) ⌝ }
+{
+    put_first_fields(out, size, class(kind), space(kind));
     put_date_and_platform(out);
     put_last_fields(out);
 }

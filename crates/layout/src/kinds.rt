@@ -6,12 +6,14 @@ ghost use lib.ListN.{length};
 ghost use Rattle.buffer.specs.Buffer.{put};
 ghost use Rattle.profile.specs.Signatures as Sig;
 ghost use Rattle.profile.specs.Elements.{body, bodySize};
-ghost use Rattle.profile.specs.Plan.{gray, rgb, xyb};
+ghost use Rattle.profile.specs.Plan.{gray, rgb, xyb, contentBy};
 ghost use Rattle.profile.specs.TagTypes as TagTypes;
 ghost use Rattle.profile.specs.Layout.{tag, described, colorElements, elementsOf};
-ghost use Rattle.profile.specs.Shape.{one, describedSlots, curveSize, isGamma, grayShape, rgbShape, xybShape, slotsOf};
+ghost use Rattle.profile.specs.Shape.{one, describedSlots, curveSize, isGamma, grayShape, rgbShape, xybShape, shapeBy, slotsOf};
 use profile::Cicp;
 use profile::Curve;
+use profile::Kind;
+use profile::Numbers;
 use profile::elements;
 use profile::xyb;
 
@@ -39,7 +41,7 @@ fn put_color_elements(out: &mut [u8], at: usize, columns: [i32; 9], curve: Curve
     elements::put_curve(out, at, curve)
 }
 
-pub fn put_gray_elements(out: &mut [u8], at: usize, text: &[u8], curve: Curve, x: i32, z: i32)
+fn put_gray_elements(out: &mut [u8], at: usize, text: &[u8], curve: Curve, x: i32, z: i32)
     requires { ⌜ (length (now text) ≤ 372) × (at + bodySize (slotsOf (grayShape (length (now text)) curve)) ≤ length (now out)) ⌝ }
     ensures { λ _. ⌜ now (out .exit) ≡ put (now (out .entry)) at (body (elementsOf (gray (now (text .entry)) curve x z))) ⌝ }
 {
@@ -47,7 +49,7 @@ pub fn put_gray_elements(out: &mut [u8], at: usize, text: &[u8], curve: Curve, x
     elements::put_curve(out, at, curve);
 }
 
-pub fn put_rgb_elements(
+fn put_rgb_elements(
     out: &mut [u8],
     at: usize,
     text: &[u8],
@@ -65,7 +67,7 @@ pub fn put_rgb_elements(
     put_color_elements(out, at, columns, curve);
 }
 
-pub fn put_xyb_elements(out: &mut [u8], at: usize)
+fn put_xyb_elements(out: &mut [u8], at: usize)
     requires { ⌜ at + bodySize (slotsOf xybShape) ≤ length (now out) ⌝ }
     ensures { λ _. ⌜ now (out .exit) ≡ put (now (out .entry)) at (body (elementsOf xyb)) ⌝ }
 {
@@ -74,4 +76,23 @@ pub fn put_xyb_elements(out: &mut [u8], at: usize)
     let at = elements::create_icc_chad_tag(out, at, &chad);
     let at = xyb::create_icc_lut_atob_tag_for_xyb(out, at);
     xyb::create_icc_noop_btoa_tag(out, at);
+}
+
+// The elements of a plan with this text.
+pub fn put_elements(out: &mut [u8], at: usize, plan: Numbers, text: &[u8])
+    requires { ⌜ (length (now text) ≤ 372) × (at + bodySize (slotsOf (shapeBy (plan .kind) (plan .curve) (plan .cicp) (length (now text)))) ≤ length (now out)) ⌝ }
+    ensures { λ _. ⌜ now (out .exit) ≡ put (now (out .entry)) at (body (elementsOf (contentBy (plan .kind) plan (now (text .entry))))) ⌝ }
+{
+    let kind = plan.kind;
+    let curve = plan.curve;
+    match kind {
+        Kind::Gray => put_gray_elements(out, at, text, curve, plan.white_x, plan.white_z),
+        Kind::Rgb => {
+            let chad = plan.chad;
+            let columns = plan.columns;
+            let cicp = plan.cicp;
+            put_rgb_elements(out, at, text, curve, chad, columns, cicp)
+        }
+        Kind::Xyb => put_xyb_elements(out, at),
+    }
 }

@@ -10,7 +10,9 @@ use Rattle.md5.specs.Md5.{md5}
 use Rattle.xyb_constants.specs.XybNumbers as XybNumbers
 use Rattle.profile.specs.Signatures as Sig
 use Rattle.profile.specs.Elements.{Element, Slot, slot, file, fileLength}
-use Rattle.profile.specs.Plan.{Plan, Content, gray, rgb, xyb, Kind, isGray, isRgb, isXyb, kind}
+use Rattle.profile.specs.Plan.{Plan, Content, gray, rgb, xyb, kind}
+use Rattle.profile.specs.declared.Kind.{Kind}
+use Rattle.profile.specs.declared.Kind.the-variants.{Gray, Rgb, Xyb}
 use Rattle.profile.specs.TagTypes.{join, zeros, mluc, xyz, sf32, curve, cicp, s15Fixed16s}
 use Rattle.profile.specs.Xyb.{a2b0, b2a0}
 use Rattle.profile.specs.declared.Curve.{Curve}
@@ -68,14 +70,14 @@ pub record Varying : Type 0 where
   pub id : List ℕ
 
 abbrev pub class : Kind → List ℕ
-class isGray = Sig.mntr
-class isRgb = Sig.mntr
-class isXyb = Sig.scnr
+class Gray = Sig.mntr
+class Rgb = Sig.mntr
+class Xyb = Sig.scnr
 
 abbrev pub space : Kind → List ℕ
-space isGray = Sig.GRAY
-space isRgb = Sig.RGB
-space isXyb = Sig.RGB
+space Gray = Sig.GRAY
+space Rgb = Sig.RGB
+space Xyb = Sig.RGB
 
 -- bytes 4 to 43: preferred CMM, version 4.4, class, data color space, PCS, 2019-12-01 00:00:00, file signature, platform
 abbrev pub front : Kind → List ℕ

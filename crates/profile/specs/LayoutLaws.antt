@@ -13,7 +13,9 @@ use Rattle.md5.specs.Md5.{md5}
 use Rattle.md5.specs.Md5Laws.{length-md5}
 use Rattle.profile.specs.Elements.{file, fileLength, start, tagCount, bodySize, padding}
 use Rattle.profile.specs.ElementsLaws.{Fours, length-file}
-use Rattle.profile.specs.Plan.{Plan, Kind, isGray, isRgb, isXyb, kind, xybPlan, Good}
+use Rattle.profile.specs.Plan.{Plan, kind, xybPlan, Good}
+use Rattle.profile.specs.declared.Kind.{Kind}
+use Rattle.profile.specs.declared.Kind.the-variants.{Gray, Rgb, Xyb}
 use Rattle.profile.specs.TagTypes.{join, zeros, s15Fixed16s}
 use Rattle.profile.specs.Layout
 use Rattle.profile.specs.Shape.{shape, slotsOf}
@@ -25,31 +27,31 @@ use Rattle.profile.specs.PlanLaws as PlanLaws
 
 pub length-header : (k : Kind) (v : Layout.Varying) → length (v .id) ≡ 16 → length (Layout.header k v) ≡ 128
 unfolding Layout.header join
-length-header isGray v h = simp (length-append, length-be16, length-be32, length-s15Fixed16s, h)
-length-header isRgb v h = simp (length-append, length-be16, length-be32, length-s15Fixed16s, h)
-length-header isXyb v h = simp (length-append, length-be16, length-be32, length-s15Fixed16s, h)
+length-header Gray v h = simp (length-append, length-be16, length-be32, length-s15Fixed16s, h)
+length-header Rgb v h = simp (length-append, length-be16, length-be32, length-s15Fixed16s, h)
+length-header Xyb v h = simp (length-append, length-be16, length-be32, length-s15Fixed16s, h)
 
 -- once the kind is known a header computes, up to its id
 header-blanked : (k : Kind) (v : Layout.Varying) (r : List ℕ) → length (v .id) ≡ 16
     → Layout.blanked (Layout.header k v ++ r) ≡ Layout.header k (record { size = v .size; intent = 0; id = zeros 16 }) ++ r
 unfolding Layout.header join s15Fixed16s be16 be32 Layout.blanked
-header-blanked isGray v r h = rw (append-assoc (v .id) (zeros 28 ++ []) r, drop-at (v .id) (zeros 28 ++ [] ++ r) 16 h) (simp append-nil)
-header-blanked isRgb v r h = rw (append-assoc (v .id) (zeros 28 ++ []) r, drop-at (v .id) (zeros 28 ++ [] ++ r) 16 h) (simp append-nil)
-header-blanked isXyb v r h = rw (append-assoc (v .id) (zeros 28 ++ []) r, drop-at (v .id) (zeros 28 ++ [] ++ r) 16 h) (simp append-nil)
+header-blanked Gray v r h = rw (append-assoc (v .id) (zeros 28 ++ []) r, drop-at (v .id) (zeros 28 ++ [] ++ r) 16 h) (simp append-nil)
+header-blanked Rgb v r h = rw (append-assoc (v .id) (zeros 28 ++ []) r, drop-at (v .id) (zeros 28 ++ [] ++ r) 16 h) (simp append-nil)
+header-blanked Xyb v r h = rw (append-assoc (v .id) (zeros 28 ++ []) r, drop-at (v .id) (zeros 28 ++ [] ++ r) 16 h) (simp append-nil)
 
 pub header-put-intent : (k : Kind) (n i j : ℕ) (d r : List ℕ)
     → put (Layout.header k (record { size = n; intent = i; id = d }) ++ r) 64 (be32 j) ≡ Layout.header k (record { size = n; intent = j; id = d }) ++ r
 unfolding put Layout.header join s15Fixed16s be16 be32
-header-put-intent isGray n i j d r = refl
-header-put-intent isRgb n i j d r = refl
-header-put-intent isXyb n i j d r = refl
+header-put-intent Gray n i j d r = refl
+header-put-intent Rgb n i j d r = refl
+header-put-intent Xyb n i j d r = refl
 
 pub header-put-id : (k : Kind) (n i : ℕ) (d e r : List ℕ) → length d ≡ 16 → length e ≡ 16
     → put (Layout.header k (record { size = n; intent = i; id = d }) ++ r) 84 e ≡ Layout.header k (record { size = n; intent = i; id = e }) ++ r
 unfolding put Layout.header join s15Fixed16s be16 be32
-header-put-id isGray n i d e r h g = rw (g, append-assoc d (zeros 28 ++ []) r, drop-at d (zeros 28 ++ [] ++ r) 16 h) (simp append-assoc)
-header-put-id isRgb n i d e r h g = rw (g, append-assoc d (zeros 28 ++ []) r, drop-at d (zeros 28 ++ [] ++ r) 16 h) (simp append-assoc)
-header-put-id isXyb n i d e r h g = rw (g, append-assoc d (zeros 28 ++ []) r, drop-at d (zeros 28 ++ [] ++ r) 16 h) (simp append-assoc)
+header-put-id Gray n i d e r h g = rw (g, append-assoc d (zeros 28 ++ []) r, drop-at d (zeros 28 ++ [] ++ r) 16 h) (simp append-assoc)
+header-put-id Rgb n i d e r h g = rw (g, append-assoc d (zeros 28 ++ []) r, drop-at d (zeros 28 ++ [] ++ r) 16 h) (simp append-assoc)
+header-put-id Xyb n i d e r h g = rw (g, append-assoc d (zeros 28 ++ []) r, drop-at d (zeros 28 ++ [] ++ r) 16 h) (simp append-assoc)
 
 -- ---- the length of a plan's file
 

@@ -10,6 +10,9 @@ use mir.Val.{SFits}
 use mir.Syntax.{w32}
 use Rattle.buffer.specs.All.{All}
 use Rattle.buffer.specs.Ascii.{Ascii}
+use Rattle.profile.specs.declared.Kind.{Kind}
+use Rattle.profile.specs.declared.Kind.the-variants.{Gray, Rgb, Xyb}
+use Rattle.profile.specs.declared.Numbers.{Numbers}
 use Rattle.profile.specs.declared.Curve.{Curve}
 use Rattle.profile.specs.declared.Curve.the-variants.{Named, Gamma}
 use Rattle.profile.specs.declared.Cicp.{Cicp}
@@ -37,16 +40,23 @@ xybPlan i = record { intent = i; content = xyb }
 
 -- ---- the three kinds
 
-pub data Kind : Type 0 where
-  isGray isRgb isXyb : Kind
-
 abbrev pub kindOf : Content → Kind
-kindOf (gray t c x z) = isGray
-kindOf (rgb t c m k v) = isRgb
-kindOf xyb = isXyb
+kindOf (gray t c x z) = Gray
+kindOf (rgb t c m k v) = Rgb
+kindOf xyb = Xyb
 
 abbrev pub kind : Plan → Kind
 kind p = kindOf (p .content)
+
+-- ---- a plan by the code's numbers and its text
+
+abbrev pub contentBy : Kind → Numbers → List ℕ → Content
+contentBy Gray p t = gray t (p .curve) (p .«white_x») (p .«white_z»)
+contentBy Rgb p t = rgb t (p .curve) (p .chad) (p .columns) (p .cicp)
+contentBy Xyb p t = xyb
+
+abbrev pub planOf : Numbers → List ℕ → Plan
+planOf p t = record { intent = p .intent; content = contentBy (p .kind) p t }
 
 -- ---- which plans there are; N is what each free number has to be
 
@@ -91,9 +101,9 @@ GoodContent N xyb = Unit {0}
 
 -- XYB has the one intent, Perceptual
 abbrev pub GoodIntent : Kind → ℕ → Type 0
-GoodIntent isGray i = i ≤ 3
-GoodIntent isRgb i = i ≤ 3
-GoodIntent isXyb i = i ≡ 0
+GoodIntent Gray i = i ≤ 3
+GoodIntent Rgb i = i ≤ 3
+GoodIntent Xyb i = i ≡ 0
 
 pub record Good (N : ℤ → Type 0) (p : Plan) : Type 0 where
   pub intent : GoodIntent (kind p) (p .intent)

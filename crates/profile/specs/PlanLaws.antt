@@ -13,10 +13,14 @@ use Rattle.profile.specs.Signatures as Sig
 use Rattle.profile.specs.Elements.{Element, slot, padding, start, bodySize, tagCount, fileLength}
 use Rattle.profile.specs.ElementsLaws.{Four, Fours}
 use Rattle.profile.specs.Plan
-use Rattle.profile.specs.Plan.{isGray, isRgb, isXyb, gray, rgb, xyb}
+use Rattle.profile.specs.Plan.{gray, rgb, xyb}
+use Rattle.profile.specs.declared.Kind.the-variants.{Gray, Rgb, Xyb}
 use Rattle.profile.specs.TagTypesLaws.{length-mluc, length-xyz, length-sf32, length-curve, length-cicp, length-a2b0, length-b2a0}
 use Rattle.profile.specs.Layout as Layout
 use Rattle.profile.specs.Shape
+use Rattle.profile.specs.declared.Kind.{Kind}
+use Rattle.profile.specs.declared.Shape.{Shape}
+use Rattle.profile.specs.declared.Numbers.{Numbers}
 use Rattle.profile.specs.declared.Curve.{Curve}
 use Rattle.profile.specs.declared.Curve.the-variants.{Named, Gamma}
 use Rattle.profile.specs.declared.Cicp.{Cicp}
@@ -53,6 +57,39 @@ slots-shape p h = go (p .content) h
         simp (slots-cicp, length-mluc, length-xyz, length-sf32, length-curve, h .0, first, second, third)
     go xyb h = simp (length-mluc, length-xyz, length-sf32, length-chad, length-a2b0, length-b2a0)
 
+-- the shape of the plan that the code's numbers and a text make
+pub shape-by : (p : Numbers) (t : List ℕ) → Shape.shape (Plan.planOf p t) ≡ Shape.shapeBy (p .kind) (p .curve) (p .cicp) (length t)
+shape-by p t = go (p .kind)
+  where
+    go : (k : Kind) → Shape.shapeOf (Plan.contentBy k p t) ≡ Shape.shapeBy k (p .curve) (p .cicp) (length t)
+    go Gray = refl
+    go Rgb = refl
+    go Xyb = refl
+
+pub kind-by : (p : Numbers) (t : List ℕ) → Plan.kind (Plan.planOf p t) ≡ p .kind
+kind-by p t = go (p .kind)
+  where
+    go : (k : Kind) → Plan.kindOf (Plan.contentBy k p t) ≡ k
+    go Gray = refl
+    go Rgb = refl
+    go Xyb = refl
+
+pub letters-by : (p : Numbers) (t : List ℕ) → length t ≤ 372 → Shape.shape (Plan.planOf p t) .letters ≤ 372
+letters-by p t h = go (p .kind)
+  where
+    go : (k : Kind) → Shape.shapeOf (Plan.contentBy k p t) .letters ≤ 372
+    go Gray = h
+    go Rgb = h
+    go Xyb = omega arith
+
+pub nines-by : (p : Numbers) (t : List ℕ) → length (p .chad) ≡ 9 → length (p .columns) ≡ 9 → Nines (Plan.planOf p t .content)
+nines-by p t h g = go (p .kind)
+  where
+    go : (k : Kind) → Nines (Plan.contentBy k p t)
+    go Gray = tt
+    go Rgb = (h, g)
+    go Xyb = tt
+
 -- ---- the shapes there are
 
 -- `cicp` stands beside a named curve only
@@ -61,7 +98,7 @@ NotBoth true true = ⊥
 NotBoth true false = Unit {0}
 NotBoth false b = Unit {0}
 
-pub record GoodShape (s : Shape.Shape) : Type 0 where
+pub record GoodShape (s : Shape) : Type 0 where
   pub some-letter : 1 ≤ s .letters
   pub short : s .letters ≤ 372
   pub pair : NotBoth (s .cicp) (s .gamma)
@@ -76,33 +113,33 @@ good-shape N (gray t c x z) h = record { some-letter = h .text .some-letter; sho
 good-shape N (rgb t c m k v) h = record { some-letter = h .text .some-letter; short = h .text .short; pair = good-pair c v (h .cicp) }
 good-shape N xyb h = record { some-letter = omega arith; short = omega arith; pair = tt }
 
-pub at-least : (k : Plan.Kind) (n : ℕ) (g v : Bool) → 1 ≤ n → 284 ≤ fileLength (Shape.slotsFor k n g v)
+pub at-least : (k : Kind) (n : ℕ) (g v : Bool) → 1 ≤ n → 284 ≤ fileLength (Shape.slotsFor k n g v)
 unfolding fileLength start bodySize tagCount padding
-at-least isGray n true v h = omega arith
-at-least isGray n false v h = omega arith
-at-least isRgb n true true h = omega arith
-at-least isRgb n true false h = omega arith
-at-least isRgb n false true h = omega arith
-at-least isRgb n false false h = omega arith
-at-least isXyb n g v h = omega arith
+at-least Gray n true v h = omega arith
+at-least Gray n false v h = omega arith
+at-least Rgb n true true h = omega arith
+at-least Rgb n true false h = omega arith
+at-least Rgb n false true h = omega arith
+at-least Rgb n false false h = omega arith
+at-least Xyb n g v h = omega arith
 
-pub at-most : (k : Plan.Kind) (n : ℕ) (g v : Bool) → n ≤ 372 → fileLength (Shape.slotsFor k n g v) ≤ 1240
+pub at-most : (k : Kind) (n : ℕ) (g v : Bool) → n ≤ 372 → fileLength (Shape.slotsFor k n g v) ≤ 1240
 unfolding fileLength start bodySize tagCount padding
-at-most isGray n true v h = omega arith
-at-most isGray n false v h = omega arith
-at-most isRgb n true true h = omega arith
-at-most isRgb n true false h = omega arith
-at-most isRgb n false true h = omega arith
-at-most isRgb n false false h = omega arith
-at-most isXyb n g v h = omega arith
+at-most Gray n true v h = omega arith
+at-most Gray n false v h = omega arith
+at-most Rgb n true true h = omega arith
+at-most Rgb n true false h = omega arith
+at-most Rgb n false true h = omega arith
+at-most Rgb n false false h = omega arith
+at-most Xyb n g v h = omega arith
 
 four : {a b c d : ℕ} → All Four ((a ∷ b ∷ c ∷ d ∷ []) ∷ [])
 four = more refl none
 
-pub fours : (k : Plan.Kind) (n : ℕ) (g v : Bool) → Fours (Shape.slotsFor k n g v)
-fours isGray n g v = more four (more four (more four (more four none)))
-fours isRgb n g true =
+pub fours : (k : Kind) (n : ℕ) (g v : Bool) → Fours (Shape.slotsFor k n g v)
+fours Gray n g v = more four (more four (more four (more four none)))
+fours Rgb n g true =
     more four (more four (more four (more four (more four (more four (more four (more four (more (more refl (more refl four)) none))))))))
-fours isRgb n g false =
+fours Rgb n g false =
     more four (more four (more four (more four (more four (more four (more four (more (more refl (more refl four)) none)))))))
-fours isXyb n g v = more four (more four (more four (more four (more four (more four none)))))
+fours Xyb n g v = more four (more four (more four (more four (more four (more four none)))))

@@ -6,17 +6,14 @@ use mathlib.Core.List.{List, [], _∷_, _++_}
 use lib.ListN.{length}
 use Rattle.profile.specs.Signatures as Sig
 use Rattle.profile.specs.Elements.{Slot}
-use Rattle.profile.specs.Plan.{Plan, Content, gray, rgb, xyb, Kind, isGray, isRgb, isXyb}
+use Rattle.profile.specs.Plan.{Plan, Content, gray, rgb, xyb}
+use Rattle.profile.specs.declared.Kind.{Kind}
+use Rattle.profile.specs.declared.Kind.the-variants.{Gray, Rgb, Xyb}
+use Rattle.profile.specs.declared.Shape.{Shape}
 use Rattle.profile.specs.declared.Curve.{Curve}
 use Rattle.profile.specs.declared.Curve.the-variants.{Named, Gamma}
 use Rattle.profile.specs.declared.Cicp.{Cicp}
 use Rattle.profile.specs.declared.Cicp.the-variants.{Absent, Primaries}
-
-pub record Shape : Type 0 where
-  pub kind : Kind
-  pub letters : ℕ
-  pub gamma : Bool
-  pub cicp : Bool
 
 abbrev pub isGamma : Curve → Bool
 isGamma (Named n) = false
@@ -27,14 +24,14 @@ hasCicp Absent = false
 hasCicp (Primaries v) = true
 
 abbrev pub grayShape : ℕ → Curve → Shape
-grayShape n c = record { kind = isGray; letters = n; gamma = isGamma c; cicp = false }
+grayShape n c = record { kind = Gray; letters = n; gamma = isGamma c; cicp = false }
 
 abbrev pub rgbShape : ℕ → Curve → Cicp → Shape
-rgbShape n c v = record { kind = isRgb; letters = n; gamma = isGamma c; cicp = hasCicp v }
+rgbShape n c v = record { kind = Rgb; letters = n; gamma = isGamma c; cicp = hasCicp v }
 
 -- the text of XYB is `XYB_Per`
 abbrev pub xybShape : Shape
-xybShape = record { kind = isXyb; letters = 7; gamma = false; cicp = false }
+xybShape = record { kind = Xyb; letters = 7; gamma = false; cicp = false }
 
 abbrev pub shapeOf : Content → Shape
 shapeOf (gray t c x z) = grayShape (length t) c
@@ -43,6 +40,12 @@ shapeOf xyb = xybShape
 
 abbrev pub shape : Plan → Shape
 shape p = shapeOf (p .content)
+
+-- the same by a kind, a curve and `cicp`, with so many letters of text
+abbrev pub shapeBy : Kind → Curve → Cicp → ℕ → Shape
+shapeBy Gray c v n = grayShape n c
+shapeBy Rgb c v n = rgbShape n c v
+shapeBy Xyb c v n = xybShape
 
 -- ---- sizes (01, "The layout")
 
@@ -76,10 +79,10 @@ abbrev pub describedSlots : ℕ → List Slot → List Slot
 describedSlots n ss = one Sig.desc (mlucSize n) ∷ one Sig.cprt (mlucSize 3) ∷ ss
 
 abbrev pub slotsFor : Kind → ℕ → Bool → Bool → List Slot
-slotsFor isGray n g v = describedSlots n (one Sig.wtpt 20 ∷ one Sig.kTRC (curveSize g) ∷ [])
-slotsFor isRgb n g v =
+slotsFor Gray n g v = describedSlots n (one Sig.wtpt 20 ∷ one Sig.kTRC (curveSize g) ∷ [])
+slotsFor Rgb n g v =
     describedSlots n (one Sig.wtpt 20 ∷ one Sig.chad 44 ∷ (cicpSlot v ++ colorSlots (curveSize g)))
-slotsFor isXyb n g v =
+slotsFor Xyb n g v =
     describedSlots 7 (one Sig.wtpt 20 ∷ one Sig.chad 44 ∷ one Sig.A2B0 292 ∷ one Sig.B2A0 80 ∷ [])
 
 unfoldable pub slotsOf : Shape → List Slot

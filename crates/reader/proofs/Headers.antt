@@ -9,7 +9,8 @@ use lib.ListN.{length, take}
 use borrow.Author.Tests.{not-true, not-false}
 use Rattle.numbers.specs.Words.{be32}
 use Rattle.buffer.specs.Buffer.{put}
-use Rattle.profile.specs.Plan.{Kind, GoodIntent}
+use Rattle.profile.specs.Plan.{GoodIntent}
+use Rattle.profile.specs.declared.Kind.{Kind}
 use Rattle.profile.specs.TagTypes.{zeros}
 use Rattle.profile.specs.Layout.{Varying, header}
 use Rattle.profile.specs.LayoutLaws.{length-header, header-put-intent, header-put-id}

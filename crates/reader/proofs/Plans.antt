@@ -11,23 +11,27 @@ use mir.Val.{SFits}
 use Rattle.profile.specs.Elements.{start, table, fileLength}
 use Rattle.profile.specs.Plan
 use Rattle.profile.specs.Plan.{gray, rgb}
-use Rattle.profile.specs.PlanLaws.{Nines, NotBoth, slots-shape, at-least, at-most}
+use Rattle.profile.specs.PlanLaws.{Nines, NotBoth, GoodShape, slots-shape, at-least, at-most}
 use Rattle.profile.specs.Layout.{layout}
 use Rattle.profile.specs.LayoutLaws.{length-layout}
 use Rattle.profile.specs.Shape.{isGamma, hasCicp, shape, shapeOf, slotsOf}
+use Rattle.profile.specs.declared.Kind.{Kind}
+use Rattle.profile.specs.declared.Kind.the-variants.{Gray, Rgb, Xyb}
+use Rattle.profile.specs.declared.Numbers.{Numbers}
 use Rattle.profile.specs.declared.Curve.{Curve}
 use Rattle.profile.specs.declared.Curve.the-variants.{Named, Gamma}
 use Rattle.profile.specs.declared.Cicp.{Cicp}
 use Rattle.profile.specs.declared.Cicp.the-variants.{Absent, Primaries}
 use Rattle.reading.specs.Recover.{recover}
 use Rattle.reading.specs.Read.{fromBody}
-use Rattle.reading.specs.Tests.{inRange, allInRange, curveInRange, cicpGood}
-use Rattle.reading.specs.TestsLaws.{cicp-if, in-range-if, in-range-of, all-in-range-if, all-in-range-of, curve-in-range-if, curve-in-range-of}
+use Rattle.reading.specs.Tests.{isAscii, inRange, allInRange, curveInRange, cicpGood}
+use Rattle.reading.specs.TestsLaws.{ascii-if, ascii-of, cicp-if, cicp-of, in-range-if, in-range-of, all-in-range-if, all-in-range-of, curve-in-range-if, curve-in-range-of}
 use Rattle.reading.specs.Steps.{Tabled}
 use Rattle.reading.specs.StepsLaws.{body-26}
 use Rattle.reading.specs.Against.{against, Candidate}
 use Rattle.reading.specs.AgainstLaws.{By, answered}
 use Rattle.reader.specs.Reading.{refusedWith, reading}
+use Rattle.reader.specs.Planned.{planGood, planInRange, PlanFits}
 
 module _ (p : Plan.Plan) (f : List ℕ) (tb : Tabled (shape p) f) (e : recover f ≡ p) (nines : Nines (p .content)) where
   -- its layout is as long as the file
@@ -124,3 +128,38 @@ module _ {t : List ℕ} {c : Curve} {m k : List ℤ} {v : Cicp} (g : Plan.GoodCo
 
   pub rgb-of : Plan.GoodContent Plan.InRange (rgb t c m k v) → (curveInRange c && (allInRange m && allInRange k)) ≡ true
   rgb-of h = both (curve-in-range-of c (h .curve)) (both (all-in-range-of (h .chad)) (all-in-range-of (h .columns)))
+
+-- ---- the same by the kind of the code's numbers
+
+pub good-by : (k : Kind) (p : Numbers) (t : List ℕ) → GoodShape (shapeOf (Plan.contentBy k p t)) → length (p .chad) ≡ 9 → length (p .columns) ≡ 9 → PlanFits k p
+    → planGood k p t ≡ true → Plan.GoodContent (SFits w32) (Plan.contentBy k p t)
+good-by Gray p t s m k f e =
+    record { text = record { some-letter = s .some-letter; short = s .short; ascii = ascii-if t e }; curve = f .0; white-x = f .1 .0; white-z = f .1 .1 }
+good-by Rgb p t s m k f e =
+    record {
+      text = record { some-letter = s .some-letter; short = s .short; ascii = ascii-if t (left (isAscii t) (cicpGood (p .cicp)) e) };
+      curve = f .0;
+      chad-nine = m;
+      chad = f .1 .0;
+      columns-nine = k;
+      columns = f .1 .1;
+      cicp = cicp-good (p .curve) (p .cicp) (s .pair) (right (isAscii t) (cicpGood (p .cicp)) e);
+    }
+good-by Xyb p t s m k f e = tt
+
+pub good-of : (k : Kind) (p : Numbers) (t : List ℕ) → Plan.GoodContent (SFits w32) (Plan.contentBy k p t) → planGood k p t ≡ true
+good-of Gray p t g = ascii-of (g .text .ascii)
+good-of Rgb p t g = both (ascii-of (g .text .ascii)) (cicp-of (p .curve) (p .cicp) (g .cicp))
+good-of Xyb p t g = refl
+
+pub range-if : (k : Kind) (p : Numbers) (t : List ℕ) → Plan.GoodContent (SFits w32) (Plan.contentBy k p t) → planInRange k p ≡ true
+    → Plan.GoodContent Plan.InRange (Plan.contentBy k p t)
+range-if Gray p t g e = gray-if g e
+range-if Rgb p t g e = rgb-if g e
+range-if Xyb p t g e = tt
+
+pub range-of : (k : Kind) (p : Numbers) (t : List ℕ) → Plan.GoodContent (SFits w32) (Plan.contentBy k p t) → Plan.GoodContent Plan.InRange (Plan.contentBy k p t)
+    → planInRange k p ≡ true
+range-of Gray p t g h = gray-of g h
+range-of Rgb p t g h = rgb-of g h
+range-of Xyb p t g h = refl

@@ -8,7 +8,9 @@ use native.Mathlib.Omega.{arith}
 use lib.ListN.{length}
 use Rattle.buffer.specs.All.{All, none, more}
 use Rattle.profile.specs.Elements.{Slot}
-use Rattle.profile.specs.Plan.{Plan, Kind, isGray, isRgb, isXyb, InRange, Valid}
+use Rattle.profile.specs.Plan.{Plan, InRange, Valid}
+use Rattle.profile.specs.declared.Kind.{Kind}
+use Rattle.profile.specs.declared.Kind.the-variants.{Gray, Rgb, Xyb}
 use Rattle.profile.specs.PlanLaws.{good-nines, slots-shape}
 use Rattle.profile.specs.Layout.{elements, withId, layout}
 use Rattle.profile.specs.LayoutLaws.{length-id, layout-bounds}
@@ -67,14 +69,14 @@ cicp-held false ss h = h
 
 -- every element of a plan holds something, under some signature
 all-held : (k : Kind) (n : ℕ) (g v : Bool) → All Held (slotsFor k n g v)
-all-held isGray n g v =
+all-held Gray n g v =
     more (held-one _ (28 + 2 * n) (omega arith)) (more (held-one _ 34 (omega arith))
     (more (held-one _ 20 (omega arith)) (more (held-one _ (curveSize g) (curve-holds g)) none)))
-all-held isRgb n g v =
+all-held Rgb n g v =
     more (held-one _ (28 + 2 * n) (omega arith)) (more (held-one _ 34 (omega arith)) (more (held-one _ 20 (omega arith)) (more (held-one _ 44 (omega arith))
     (cicp-held v _ (more (held-one _ 20 (omega arith)) (more (held-one _ 20 (omega arith)) (more (held-one _ 20 (omega arith))
     (more (held-three _ _ _ (curveSize g) (curve-holds g)) none))))))))
-all-held isXyb n g v =
+all-held Xyb n g v =
     more (held-one _ 42 (omega arith)) (more (held-one _ 34 (omega arith)) (more (held-one _ 20 (omega arith))
     (more (held-one _ 44 (omega arith)) (more (held-one _ 292 (omega arith)) (more (held-one _ 80 (omega arith)) none)))))
 

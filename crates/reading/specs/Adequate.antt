@@ -11,7 +11,7 @@ use Rattle.numbers.specs.Words.{be32, word32, twosComplement32, signed32}
 use Rattle.numbers.specs.WordsLaws.{be32-word32, signed32-fits, twosComplement32-signed32}
 use Rattle.buffer.specs.All.{All, more}
 use Rattle.profile.specs.Signatures as Sig
-use Rattle.profile.specs.Plan.{Kind}
+use Rattle.profile.specs.declared.Kind.{Kind}
 use Rattle.profile.specs.TagTypes.{join, zeros, s15Fixed16s}
 use Rattle.profile.specs.Layout.{header, front, D50}
 use Rattle.reading.specs.Table.{varyingOf}

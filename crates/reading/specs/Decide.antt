@@ -13,16 +13,24 @@ use mir.Val.{SFits}
 use Rattle.buffer.specs.All.{All, none, more}
 use Rattle.profile.specs.Elements.{table, body, fileLength}
 use Rattle.profile.specs.Plan
-use Rattle.profile.specs.Plan.{Kind, isGray, isRgb, isXyb, gray, rgb, xyb}
+use Rattle.profile.specs.Plan.{gray, rgb, xyb}
+use Rattle.profile.specs.declared.Kind.{Kind}
+use Rattle.profile.specs.declared.Kind.the-variants.{Gray, Rgb, Xyb}
 use Rattle.profile.specs.PlanLaws.{NotBoth, GoodShape}
 use Rattle.profile.specs.Layout.{elements, slots}
-use Rattle.profile.specs.Shape.{Shape, slotsOf}
+use Rattle.profile.specs.Shape.{slotsOf}
+use Rattle.profile.specs.declared.Shape.{Shape}
 use Rattle.profile.specs.declared.Curve.{Curve}
 use Rattle.profile.specs.declared.Curve.the-variants.{Named, Gamma}
 use Rattle.profile.specs.declared.Cicp.{Cicp}
 use Rattle.profile.specs.declared.Cicp.the-variants.{Absent, Primaries}
 use Rattle.reading.specs.Table.{tableOf, bodyOf}
 use Rattle.reading.specs.Reader.{Header}
+
+-- whether it holds
+unfoldable pub decided : {A : Type 0} → Dec A → Bool
+decided (yes a) = true
+decided (no h) = false
 
 both : {A B : Type 0} → Dec A → Dec B → Dec (A × B)
 both (yes a) (yes b) = yes (a, b)
@@ -78,9 +86,9 @@ module _ (N : ℤ → Type 0) (d : (z : ℤ) → Dec (N z)) where
   content xyb = yes tt
 
 pub intent : (k : Kind) (i : ℕ) → Dec (Plan.GoodIntent k i)
-intent isGray i = decLe i 3
-intent isRgb i = decLe i 3
-intent isXyb i = ℕ-discrete i 0
+intent Gray i = decLe i 3
+intent Rgb i = decLe i 3
+intent Xyb i = ℕ-discrete i 0
 
 pub in-range : (z : ℤ) → Dec (Plan.InRange z)
 in-range z = decLe (natAbs z) 2147483264

@@ -14,9 +14,12 @@ use Rattle.buffer.specs.All.{All, none, more}
 use Rattle.md5.specs.Md5.{md5}
 use Rattle.profile.specs.Elements.{start, tagCount, table, entries, body, file, fileLength}
 use Rattle.profile.specs.ElementsLaws.{Fours}
-use Rattle.profile.specs.Plan.{Plan, Content, gray, rgb, xyb, Kind, isGray, isRgb, isXyb, kind, GoodCurve, GoodContent, GoodIntent, Good, InRange, Valid, Wide}
+use Rattle.profile.specs.Plan.{Plan, Content, gray, rgb, xyb, kind, GoodCurve, GoodContent, GoodIntent, Good, InRange, Valid, Wide}
+use Rattle.profile.specs.declared.Kind.{Kind}
+use Rattle.profile.specs.declared.Kind.the-variants.{Gray, Rgb, Xyb}
 use Rattle.profile.specs.PlanLaws.{good-nines, slots-shape}
-use Rattle.profile.specs.Shape.{Shape, shape}
+use Rattle.profile.specs.Shape.{shape}
+use Rattle.profile.specs.declared.Shape.{Shape}
 use Rattle.profile.specs.TagTypes.{join, zeros, s15Fixed16s}
 use Rattle.profile.specs.Layout.{Varying, header, elements, slots, withId, profileId, layout}
 use Rattle.profile.specs.LayoutLaws.{length-header, plan-fours, length-id, length-layout, layout-bounds, blanked-withId}
@@ -38,15 +41,15 @@ pub record Fits (v : Varying) : Type 0 where
 -- once the kind is known a header computes, up to its id
 header-intent : (k : Kind) (v : Varying) (r : List ℕ) → v .intent < 2 ^ 32 → word32 (drop 64 (header k v ++ r)) ≡ v .intent
 unfolding header join s15Fixed16s be16 be32
-header-intent isGray v r h = word32-be32 (v .intent) _ h
-header-intent isRgb v r h = word32-be32 (v .intent) _ h
-header-intent isXyb v r h = word32-be32 (v .intent) _ h
+header-intent Gray v r h = word32-be32 (v .intent) _ h
+header-intent Rgb v r h = word32-be32 (v .intent) _ h
+header-intent Xyb v r h = word32-be32 (v .intent) _ h
 
 header-from-id : (k : Kind) (v : Varying) (r : List ℕ) → drop 84 (header k v ++ r) ≡ v .id ++ (zeros 28 ++ r)
 unfolding header join s15Fixed16s be16 be32
-header-from-id isGray v r = append-assoc (v .id) (zeros 28) r
-header-from-id isRgb v r = append-assoc (v .id) (zeros 28) r
-header-from-id isXyb v r = append-assoc (v .id) (zeros 28) r
+header-from-id Gray v r = append-assoc (v .id) (zeros 28) r
+header-from-id Rgb v r = append-assoc (v .id) (zeros 28) r
+header-from-id Xyb v r = append-assoc (v .id) (zeros 28) r
 
 header-id : (k : Kind) (v : Varying) (r : List ℕ) → length (v .id) ≡ 16 → take 16 (drop 84 (header k v ++ r)) ≡ v .id
 header-id k v r h = rw (header-from-id k v r) (take-at (v .id) _ 16 h)
@@ -61,9 +64,9 @@ header-varying k v r h = λ i. record { size = header-size k v r (h .size) i; in
 
 pub header-kind : (k : Kind) (v : Varying) (r : List ℕ) → kindFrom (header k v ++ r) ≡ k
 unfolding header join be32 kindFrom
-header-kind isGray v r = refl
-header-kind isRgb v r = refl
-header-kind isXyb v r = refl
+header-kind Gray v r = refl
+header-kind Rgb v r = refl
+header-kind Xyb v r = refl
 
 -- ---- a plan's file, under any id
 
@@ -72,9 +75,9 @@ abbrev pub varying : ℕ → List ℕ → Plan → Varying
 varying n id p = record { size = n; intent = p .intent; id = id }
 
 intent-small : (k : Kind) (i : ℕ) → GoodIntent k i → i < 2 ^ 32
-intent-small isGray i h = omega arith
-intent-small isRgb i h = omega arith
-intent-small isXyb i h = omega arith
+intent-small Gray i h = omega arith
+intent-small Rgb i h = omega arith
+intent-small Xyb i h = omega arith
 
 module _ (N : ℤ → Type 0) (p : Plan) (g : Good N p) where
   pub fours : Fours (slots p)

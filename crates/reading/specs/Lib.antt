@@ -25,3 +25,5 @@ pub mod Against
 pub mod AgainstLaws
 pub mod BytesLaws
 pub mod Adequate
+pub mod DecideLaws
+pub mod SizesLaws

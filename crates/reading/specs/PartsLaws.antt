@@ -11,9 +11,12 @@ use lib.Seq.{getD-take, getD-drop, drop-drop, drop-at, take-add, length-take-le}
 use Rattle.numbers.specs.Words.{word32, signed32}
 use Rattle.profile.specs.Signatures as Sig
 use Rattle.profile.specs.Elements.{start, tagCount, table, entries, bodySize, padding, fileLength}
-use Rattle.profile.specs.Plan.{Kind, isGray, isRgb, isXyb, gray, rgb, xyb}
+use Rattle.profile.specs.Plan.{gray, rgb, xyb}
+use Rattle.profile.specs.declared.Kind.{Kind}
+use Rattle.profile.specs.declared.Kind.the-variants.{Gray, Rgb, Xyb}
 use Rattle.profile.specs.PlanLaws as PlanLaws
-use Rattle.profile.specs.Shape.{Shape, one, describedSlots, curveSize, slotsFor, slotsOf}
+use Rattle.profile.specs.Shape.{one, describedSlots, curveSize, slotsFor, slotsOf}
+use Rattle.profile.specs.declared.Shape.{Shape}
 use Rattle.profile.specs.declared.Curve.the-variants.{Named, Gamma}
 use Rattle.profile.specs.declared.Cicp.the-variants.{Absent, Primaries}
 use Rattle.reading.specs.Table.{varyingOf, tagsOf, bodyOf, entriesOf, elementAt}
@@ -100,14 +103,14 @@ module _ (k : Kind) (n : ℕ) (g v : Bool) (f : List ℕ) (t : Tabled (shaped k 
 
 -- ---- gray
 
-gray-size : (n : ℕ) (g v : Bool) → fileLength (slotsFor isGray n g v) ≡ fourth 4 n + curveSize g
+gray-size : (n : ℕ) (g v : Bool) → fileLength (slotsFor Gray n g v) ≡ fourth 4 n + curveSize g
 unfolding fileLength start bodySize tagCount padding
 gray-size n true v = omega arith
 gray-size n false v = omega arith
 
-module _ (n : ℕ) (g v : Bool) (f : List ℕ) (t : Tabled (shaped isGray n g v) f) where
+module _ (n : ℕ) (g v : Bool) (f : List ℕ) (t : Tabled (shaped Gray n g v) f) where
   pub gray-length : length f ≡ fourth 4 n + curveSize g
-  gray-length = tabled-length isGray n g v f t ∙ gray-size n g v
+  gray-length = tabled-length Gray n g v f t ∙ gray-size n g v
 
   pub recover-gray : Recover.recover f ≡ record {
     intent = varyingOf f .intent;
@@ -121,7 +124,7 @@ module _ (n : ℕ) (g v : Bool) (f : List ℕ) (t : Tabled (shaped isGray n g v)
       let x : a + 8 ≡ fourth 4 n - 12 = omega arith in
       let z : a + 16 ≡ fourth 4 n - 4 = omega arith in
       let c : a + 20 ≡ fourth 4 n = omega arith in
-      by-parts isGray n g v f t
+      by-parts Gray n g v f t
       ∙ rw (
         text-in n f 180 (omega (arith, gray-length)),
         curve-in g f (a + 20) (curveSize g) (curve-long g),
@@ -134,12 +137,12 @@ module _ (n : ℕ) (g v : Bool) (f : List ℕ) (t : Tabled (shaped isGray n g v)
 
 -- ---- RGB, without `cicp` and with it
 
-rgb-size : (n : ℕ) (g : Bool) → fileLength (slotsFor isRgb n g false) ≡ fourth 10 n + 104 + curveSize g
+rgb-size : (n : ℕ) (g : Bool) → fileLength (slotsFor Rgb n g false) ≡ fourth 10 n + 104 + curveSize g
 unfolding fileLength start bodySize tagCount padding
 rgb-size n true = omega arith
 rgb-size n false = omega arith
 
-cicp-size : (n : ℕ) (g : Bool) → fileLength (slotsFor isRgb n g true) ≡ fourth 11 n + 116 + curveSize g
+cicp-size : (n : ℕ) (g : Bool) → fileLength (slotsFor Rgb n g true) ≡ fourth 11 n + 116 + curveSize g
 unfolding fileLength start bodySize tagCount padding
 cicp-size n true = omega arith
 cicp-size n false = omega arith
@@ -148,9 +151,9 @@ cicp-size n false = omega arith
 abbrev pub columnsFrom : List ℕ → ℕ → List ℤ
 columnsFrom f o = Recover.numbersFrom 3 (drop o f) ++ (Recover.numbersFrom 3 (drop (o + 20) f) ++ Recover.numbersFrom 3 (drop (o + 40) f))
 
-module _ (n : ℕ) (g : Bool) (f : List ℕ) (t : Tabled (shaped isRgb n g false) f) where
+module _ (n : ℕ) (g : Bool) (f : List ℕ) (t : Tabled (shaped Rgb n g false) f) where
   pub rgb-length : length f ≡ fourth 10 n + 104 + curveSize g
-  rgb-length = tabled-length isRgb n g false f t ∙ rgb-size n g
+  rgb-length = tabled-length Rgb n g false f t ∙ rgb-size n g
 
   pub recover-rgb : Recover.recover f ≡ record {
     intent = varyingOf f .intent;
@@ -166,7 +169,7 @@ module _ (n : ℕ) (g : Bool) (f : List ℕ) (t : Tabled (shaped isRgb n g false
       let e : a + 44 + 20 + 8 ≡ fourth 10 n + 52 + 20 = omega arith in
       let b : a + 44 + 20 + 20 + 8 ≡ fourth 10 n + 52 + 40 = omega arith in
       let c : a + 44 + 20 + 20 + 20 ≡ fourth 10 n + 104 = omega arith in
-      by-parts isRgb n g false f t
+      by-parts Rgb n g false f t
       ∙ rw (
         text-in n f 252 (omega (arith, rgb-length)),
         curve-in g f (a + 44 + 20 + 20 + 20) (curveSize g) (curve-long g),
@@ -181,9 +184,9 @@ module _ (n : ℕ) (g : Bool) (f : List ℕ) (t : Tabled (shaped isRgb n g false
         c,
       )
 
-module _ (n : ℕ) (g : Bool) (f : List ℕ) (t : Tabled (shaped isRgb n g true) f) where
+module _ (n : ℕ) (g : Bool) (f : List ℕ) (t : Tabled (shaped Rgb n g true) f) where
   pub cicp-length : length f ≡ fourth 11 n + 116 + curveSize g
-  cicp-length = tabled-length isRgb n g true f t ∙ cicp-size n g
+  cicp-length = tabled-length Rgb n g true f t ∙ cicp-size n g
 
   pub recover-cicp : Recover.recover f ≡ record {
     intent = varyingOf f .intent;
@@ -200,7 +203,7 @@ module _ (n : ℕ) (g : Bool) (f : List ℕ) (t : Tabled (shaped isRgb n g true)
       let e : a + 44 + 12 + 20 + 8 ≡ fourth 11 n + 64 + 20 = omega arith in
       let b : a + 44 + 12 + 20 + 20 + 8 ≡ fourth 11 n + 64 + 40 = omega arith in
       let c : a + 44 + 12 + 20 + 20 + 20 ≡ fourth 11 n + 116 = omega arith in
-      by-parts isRgb n g true f t
+      by-parts Rgb n g true f t
       ∙ rw (
         text-in n f 264 (omega (arith, cicp-length)),
         curve-in g f (a + 44 + 12 + 20 + 20 + 20) (curveSize g) (curve-long g),
@@ -219,6 +222,6 @@ module _ (n : ℕ) (g : Bool) (f : List ℕ) (t : Tabled (shaped isRgb n g true)
 
 -- ---- XYB
 
-pub recover-xyb : (n : ℕ) (g v : Bool) (f : List ℕ) → Tabled (shaped isXyb n g v) f → Recover.recover f ≡ record { intent = varyingOf f .intent; content = xyb }
+pub recover-xyb : (n : ℕ) (g v : Bool) (f : List ℕ) → Tabled (shaped Xyb n g v) f → Recover.recover f ≡ record { intent = varyingOf f .intent; content = xyb }
 unfolding Recover.contentFrom
-recover-xyb n g v f t = by-parts isXyb n g v f t
+recover-xyb n g v f t = by-parts Xyb n g v f t

@@ -5,10 +5,12 @@ use mathlib.Core.List.{List, [], _∷_, _++_}
 use native.Mathlib.Decide.{decLe, ℕ-discrete}
 use lib.ListN.{length, drop}
 use Rattle.profile.specs.Elements.{start, table, entries, fileLength}
-use Rattle.profile.specs.Plan.{Plan, Kind, kind, GoodContent, GoodIntent, InRange, Valid}
+use Rattle.profile.specs.Plan.{Plan, kind, GoodContent, GoodIntent, InRange, Valid}
+use Rattle.profile.specs.declared.Kind.{Kind}
 use Rattle.profile.specs.PlanLaws.{good-nines, good-shape, slots-shape}
 use Rattle.profile.specs.Layout.{slots, profileId, layout}
-use Rattle.profile.specs.Shape.{Shape, shape}
+use Rattle.profile.specs.Shape.{shape}
+use Rattle.profile.specs.declared.Shape.{Shape}
 use Rattle.reading.specs.Table.{varyingOf, bodyOf, entriesOf}
 use Rattle.reading.specs.TableLaws.{entries-are}
 use Rattle.reading.specs.Recover.{kindFrom, shapeFrom, shapeIn, partsOf, recover}

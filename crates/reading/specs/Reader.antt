@@ -4,7 +4,8 @@ use mathlib.Core.Path.{_≡_}
 use mathlib.Core.List.{List, [], _∷_}
 use lib.ListN.{length, take}
 use Rattle.profile.specs.Elements.{table, body, fileLength}
-use Rattle.profile.specs.Plan.{Plan, Kind, kind, GoodIntent, Valid, Wide}
+use Rattle.profile.specs.Plan.{Plan, kind, GoodIntent, Valid, Wide}
+use Rattle.profile.specs.declared.Kind.{Kind}
 use Rattle.profile.specs.Layout.{header, elements, slots, profileId, layout}
 use Rattle.reading.specs.Table.{varyingOf, tableOf, bodyOf}
 

@@ -12,7 +12,8 @@ use Rattle.buffer.specs.All.{All, none, more}
 use Rattle.md5.specs.Md5.{md5}
 use Rattle.profile.specs.Elements.{start, table, body, file, fileLength}
 use Rattle.profile.specs.ElementsLaws.{length-table, length-body}
-use Rattle.profile.specs.Plan.{Plan, Kind, kind, Good, Valid, Wide}
+use Rattle.profile.specs.Plan.{Plan, kind, Good, Valid, Wide}
+use Rattle.profile.specs.declared.Kind.{Kind}
 use Rattle.profile.specs.TagTypes.{zeros}
 use Rattle.profile.specs.Layout.{header, elements, slots, withId, blanked, profileId, layout}
 use Rattle.profile.specs.LayoutLaws.{length-id, layout-bounds, blanked-withId}

@@ -7,8 +7,11 @@ use lib.IntN.{ℤ}
 use lib.ListN.{length, drop, getD}
 use Rattle.numbers.specs.Words.{word32, signed32}
 use Rattle.profile.specs.Elements.{Entry}
-use Rattle.profile.specs.Plan.{Plan, Content, gray, rgb, xyb, Kind, isGray, isRgb, isXyb}
-use Rattle.profile.specs.Shape.{Shape, xybShape}
+use Rattle.profile.specs.Plan.{Plan, Content, gray, rgb, xyb}
+use Rattle.profile.specs.declared.Kind.{Kind}
+use Rattle.profile.specs.declared.Kind.the-variants.{Gray, Rgb, Xyb}
+use Rattle.profile.specs.Shape.{xybShape}
+use Rattle.profile.specs.declared.Shape.{Shape}
 use Rattle.profile.specs.declared.CurveName.{CurveName}
 use Rattle.profile.specs.declared.CurveName.the-variants as Name
 use Rattle.profile.specs.declared.Curve.{Curve}
@@ -20,7 +23,7 @@ use Rattle.reading.specs.Table.{varyingOf, entriesOf, elementAt}
 -- ---- the kind, by the first letters of class and space: `scnr`, or else `GRAY` or `RGB `
 
 unfoldable pub kindFrom : List ℕ → Kind
-kindFrom f = cond (eqb (getD f 12 0) 115) isXyb (cond (eqb (getD f 16 0) 71) isGray isRgb)
+kindFrom f = cond (eqb (getD f 12 0) 115) Xyb (cond (eqb (getD f 16 0) 71) Gray Rgb)
 
 -- ---- the shape, by the lines of the tag table
 
@@ -32,15 +35,15 @@ sizeAt es i = (getD es i none) .size
 
 -- the first line is that of `desc`; the curve is the fourth element of gray, and of RGB the eighth, or with `cicp` the ninth
 unfoldable pub shapeFrom : Kind → List Entry → Shape
-shapeFrom isGray es = record { kind = isGray; letters = (sizeAt es 0 - 28) / 2; gamma = eqb (sizeAt es 3) 16; cicp = false }
-shapeFrom isRgb es =
+shapeFrom Gray es = record { kind = Gray; letters = (sizeAt es 0 - 28) / 2; gamma = eqb (sizeAt es 3) 16; cicp = false }
+shapeFrom Rgb es =
     record {
-      kind = isRgb;
+      kind = Rgb;
       letters = (sizeAt es 0 - 28) / 2;
       gamma = eqb (sizeAt es (cond (eqb (length es) 11) 8 7)) 16;
       cicp = eqb (length es) 11;
     }
-shapeFrom isXyb es = xybShape
+shapeFrom Xyb es = xybShape
 
 unfoldable pub shapeIn : List ℕ → Shape
 shapeIn f = shapeFrom (kindFrom f) (entriesOf f)
@@ -91,10 +94,10 @@ rgbFrom g v i bs =
 
 -- of a kind, with a gamma or not, with `cicp` or not
 unfoldable pub contentFrom : Kind → Bool → Bool → List (List ℕ) → Content
-contentFrom isGray g v bs = gray (textIn (part bs 0)) (curveIn g (part bs 3)) (numberIn (drop 8 (part bs 2))) (numberIn (drop 16 (part bs 2)))
-contentFrom isRgb g true bs = rgbFrom g (Primaries (getD (part bs 4) 8 0)) 5 bs
-contentFrom isRgb g false bs = rgbFrom g Absent 4 bs
-contentFrom isXyb g v bs = xyb
+contentFrom Gray g v bs = gray (textIn (part bs 0)) (curveIn g (part bs 3)) (numberIn (drop 8 (part bs 2))) (numberIn (drop 16 (part bs 2)))
+contentFrom Rgb g true bs = rgbFrom g (Primaries (getD (part bs 4) 8 0)) 5 bs
+contentFrom Rgb g false bs = rgbFrom g Absent 4 bs
+contentFrom Xyb g v bs = xyb
 
 unfoldable pub partsOf : List ℕ → List (List ℕ)
 partsOf f = map (elementAt f) (entriesOf f)

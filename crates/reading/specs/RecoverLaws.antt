@@ -12,9 +12,10 @@ use mir.Val.{SFits}
 use Rattle.numbers.specs.Words.{be16, be32, word32, twosComplement32, signed32}
 use Rattle.numbers.specs.WordsLaws.{length-be32, word32-be32, twosComplement32-lt, signed32-twosComplement32}
 use Rattle.buffer.specs.All.{All, none, more}
-use Rattle.profile.specs.Signatures as Sig
 use Rattle.profile.specs.Elements.{Entry, entries}
-use Rattle.profile.specs.Plan.{Content, gray, rgb, xyb, Kind, isGray, isRgb, isXyb, kindOf, GoodCurve, GoodGray, GoodRgb, GoodContent}
+use Rattle.profile.specs.Plan.{Content, gray, rgb, xyb, kindOf, GoodCurve, GoodGray, GoodRgb, GoodContent}
+use Rattle.profile.specs.declared.Kind.{Kind}
+use Rattle.profile.specs.declared.Kind.the-variants.{Gray, Rgb, Xyb}
 use Rattle.profile.specs.TagTypes
 use Rattle.profile.specs.TagTypes.{join}
 use Rattle.profile.specs.Layout.{elementsOf}
@@ -87,7 +88,7 @@ unfolding TagTypes.xyz join TagTypes.s15Fixed16s be32
 white-back x y z hx hz = (number-back x _ hx, number-back z _ hz)
 
 gray-back : (t : List ℕ) (c : Curve) (x z : ℤ) → GoodGray (SFits w32) t c x z
-    → Recover.contentFrom isGray (isGamma c) false (contents (elementsOf (gray t c x z))) ≡ gray t c x z
+    → Recover.contentFrom Gray (isGamma c) false (contents (elementsOf (gray t c x z))) ≡ gray t c x z
 unfolding Recover.contentFrom contents
 gray-back t c x z h =
     let white = white-back x (pos 65536) z (h .white-x) (h .white-z) in
@@ -128,7 +129,7 @@ rgb-parts t c m k v h =
     (ap (λ l. rgb t c m l v) (thirds k))
 
 rgb-back : (t : List ℕ) (c : Curve) (m k : List ℤ) (v : Cicp) → GoodRgb (SFits w32) t c m k v
-    → Recover.contentFrom isRgb (isGamma c) (hasCicp v) (contents (elementsOf (rgb t c m k v))) ≡ rgb t c m k v
+    → Recover.contentFrom Rgb (isGamma c) (hasCicp v) (contents (elementsOf (rgb t c m k v))) ≡ rgb t c m k v
 unfolding Recover.contentFrom contents TagTypes.cicp join
 rgb-back t c m k Absent h = rgb-parts t c m k Absent h
 rgb-back t c m k (Primaries v) h = rgb-parts t c m k (Primaries v) h
@@ -143,10 +144,10 @@ content-back xyb h = refl
 -- the kind is the one that was asked for
 pub content-kind : (k : Kind) (g v : Bool) (bs : List (List ℕ)) → kindOf (Recover.contentFrom k g v bs) ≡ k
 unfolding Recover.contentFrom
-content-kind isGray g v bs = refl
-content-kind isRgb g true bs = refl
-content-kind isRgb g false bs = refl
-content-kind isXyb g v bs = refl
+content-kind Gray g v bs = refl
+content-kind Rgb g true bs = refl
+content-kind Rgb g false bs = refl
+content-kind Xyb g v bs = refl
 
 -- ---- the shape of a plan's table
 
@@ -165,6 +166,6 @@ shape-back at xyb = refl
 
 pub shape-kind : (k : Kind) (es : List Entry) → (Recover.shapeFrom k es) .kind ≡ k
 unfolding Recover.shapeFrom
-shape-kind isGray es = refl
-shape-kind isRgb es = refl
-shape-kind isXyb es = refl
+shape-kind Gray es = refl
+shape-kind Rgb es = refl
+shape-kind Xyb es = refl

@@ -11,9 +11,11 @@ use lib.Seq.{take-at, drop-drop}
 use Rattle.numbers.specs.Words.{word32}
 use Rattle.profile.specs.Elements.{tagCount, table, fileLength}
 use Rattle.profile.specs.ElementsLaws.{length-table}
-use Rattle.profile.specs.Plan.{Kind, isGray, isRgb, isXyb}
+use Rattle.profile.specs.declared.Kind.{Kind}
+use Rattle.profile.specs.declared.Kind.the-variants.{Gray, Rgb, Xyb}
 use Rattle.profile.specs.PlanLaws.{fours, at-most}
-use Rattle.profile.specs.Shape.{Shape, slotsFor, slotsOf}
+use Rattle.profile.specs.Shape.{slotsFor, slotsOf}
+use Rattle.profile.specs.declared.Shape.{Shape}
 use Rattle.reading.specs.Table.{tagsOf, tableOf, bodyOf, entriesOf, lines}
 use Rattle.reading.specs.TableLaws.{tags-are, table-is}
 use Rattle.reading.specs.Recover.{kindFrom, shapeFrom, shapeIn}
@@ -25,22 +27,22 @@ use Rattle.reading.specs.PartsLaws.{shaped}
 
 -- ---- the shape, by the number of tags
 
-pub shape-gray : (f : List ℕ) → kindFrom f ≡ isGray → tagsOf f ≡ 4
-    → shapeIn f ≡ shaped isGray (lettersFor (word32 (drop 140 f))) (eqb (word32 (drop 176 f)) 16) false
+pub shape-gray : (f : List ℕ) → kindFrom f ≡ Gray → tagsOf f ≡ 4
+    → shapeIn f ≡ shaped Gray (lettersFor (word32 (drop 140 f))) (eqb (word32 (drop 176 f)) 16) false
 unfolding shapeIn shapeFrom entriesOf lines
 shape-gray f k t = rw (k, t) (simp drop-drop)
 
-pub shape-rgb : (f : List ℕ) → kindFrom f ≡ isRgb → tagsOf f ≡ 10
-    → shapeIn f ≡ shaped isRgb (lettersFor (word32 (drop 140 f))) (eqb (word32 (drop 224 f)) 16) false
+pub shape-rgb : (f : List ℕ) → kindFrom f ≡ Rgb → tagsOf f ≡ 10
+    → shapeIn f ≡ shaped Rgb (lettersFor (word32 (drop 140 f))) (eqb (word32 (drop 224 f)) 16) false
 unfolding shapeIn shapeFrom entriesOf lines
 shape-rgb f k t = rw (k, t) (simp drop-drop)
 
-pub shape-cicp : (f : List ℕ) → kindFrom f ≡ isRgb → tagsOf f ≡ 11
-    → shapeIn f ≡ shaped isRgb (lettersFor (word32 (drop 140 f))) (eqb (word32 (drop 236 f)) 16) true
+pub shape-cicp : (f : List ℕ) → kindFrom f ≡ Rgb → tagsOf f ≡ 11
+    → shapeIn f ≡ shaped Rgb (lettersFor (word32 (drop 140 f))) (eqb (word32 (drop 236 f)) 16) true
 unfolding shapeIn shapeFrom entriesOf lines
 shape-cicp f k t = rw (k, t) (simp drop-drop)
 
-pub shape-xyb : (f : List ℕ) → kindFrom f ≡ isXyb → shapeIn f ≡ shaped isXyb 7 false false
+pub shape-xyb : (f : List ℕ) → kindFrom f ≡ Xyb → shapeIn f ≡ shaped Xyb 7 false false
 unfolding shapeIn shapeFrom
 shape-xyb f k = rw k
 
@@ -80,14 +82,14 @@ tags-of f long k e t =
     tags-if f long (s .kind) (s .letters) (s .gamma) (s .cicp) (t .good .short) (t .table)
     ∙ ap (λ x. tagCount (slotsFor x (s .letters) (s .gamma) (s .cicp))) (kind-in f ∙ e)
 
-pub gray-tags : (f : List ℕ) → 132 ≤ length f → kindFrom f ≡ isGray → TableIs (shapeIn f) f → tagsOf f ≡ 4
+pub gray-tags : (f : List ℕ) → 132 ≤ length f → kindFrom f ≡ Gray → TableIs (shapeIn f) f → tagsOf f ≡ 4
 unfolding tagCount
-gray-tags f long e t = tags-of f long isGray e t
+gray-tags f long e t = tags-of f long Gray e t
 
-pub rgb-tags : (f : List ℕ) → 132 ≤ length f → kindFrom f ≡ isRgb → TableIs (shapeIn f) f → (tagsOf f ≡ 10) ⊎ (tagsOf f ≡ 11)
+pub rgb-tags : (f : List ℕ) → 132 ≤ length f → kindFrom f ≡ Rgb → TableIs (shapeIn f) f → (tagsOf f ≡ 10) ⊎ (tagsOf f ≡ 11)
 unfolding tagCount
-rgb-tags f long e t = go (shapeIn f .cicp) (tags-of f long isRgb e t)
+rgb-tags f long e t = go (shapeIn f .cicp) (tags-of f long Rgb e t)
   where
-    go : (v : Bool) → tagsOf f ≡ tagCount (slotsFor isRgb (shapeIn f .letters) (shapeIn f .gamma) v) → (tagsOf f ≡ 10) ⊎ (tagsOf f ≡ 11)
+    go : (v : Bool) → tagsOf f ≡ tagCount (slotsFor Rgb (shapeIn f .letters) (shapeIn f .gamma) v) → (tagsOf f ≡ 10) ⊎ (tagsOf f ≡ 11)
     go true h = inr h
     go false h = inl h

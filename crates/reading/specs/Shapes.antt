@@ -7,10 +7,13 @@ use native.Mathlib.Omega.{arith}
 use lib.IntN.{pos}
 use lib.ListN.{replicate, length-replicate}
 use Rattle.buffer.specs.All.{All, none, more}
-use Rattle.profile.specs.Plan.{Plan, Content, gray, rgb, xyb, Kind, isGray, isRgb, isXyb, kindOf, GoodText, GoodCurve, GoodCicp, GoodContent, GoodIntent, InRange, Valid}
+use Rattle.profile.specs.Plan.{Plan, Content, gray, rgb, xyb, kindOf, GoodText, GoodCurve, GoodCicp, GoodContent, GoodIntent, InRange, Valid}
+use Rattle.profile.specs.declared.Kind.{Kind}
+use Rattle.profile.specs.declared.Kind.the-variants.{Gray, Rgb, Xyb}
 use Rattle.profile.specs.PlanLaws.{NotBoth, GoodShape, good-nines, slots-shape}
 use Rattle.profile.specs.Layout.{slots}
-use Rattle.profile.specs.Shape.{Shape, shapeOf, slotsFor, slotsOf}
+use Rattle.profile.specs.Shape.{shapeOf, slotsFor, slotsOf}
+use Rattle.profile.specs.declared.Shape.{Shape}
 use Rattle.profile.specs.declared.CurveName.the-variants.{SRGB}
 use Rattle.profile.specs.declared.Curve.{Curve}
 use Rattle.profile.specs.declared.Curve.the-variants.{Named, Gamma}
@@ -26,9 +29,9 @@ cicpFor true = Primaries 1
 cicpFor false = Absent
 
 abbrev contentFor : Kind → ℕ → Bool → Bool → Content
-contentFor isGray n g v = gray (replicate n 65) (curveFor g) (pos 0) (pos 0)
-contentFor isRgb n g v = rgb (replicate n 65) (curveFor g) (replicate 9 (pos 0)) (replicate 9 (pos 0)) (cicpFor v)
-contentFor isXyb n g v = xyb
+contentFor Gray n g v = gray (replicate n 65) (curveFor g) (pos 0) (pos 0)
+contentFor Rgb n g v = rgb (replicate n 65) (curveFor g) (replicate 9 (pos 0)) (replicate 9 (pos 0)) (cicpFor v)
+contentFor Xyb n g v = xyb
 
 -- a text of A's, every number zero
 abbrev pub plain : Shape → Plan
@@ -54,8 +57,8 @@ good-cicp false true r = inl refl
 good-cicp g false r = tt
 
 good-content : (k : Kind) (n : ℕ) (g v : Bool) → 1 ≤ n → n ≤ 372 → NotBoth v g → GoodContent InRange (contentFor k n g v)
-good-content isGray n g v p q r = record { text = good-text n p q; curve = good-curve g; white-x = zero-in-range; white-z = zero-in-range }
-good-content isRgb n g v p q r =
+good-content Gray n g v p q r = record { text = good-text n p q; curve = good-curve g; white-x = zero-in-range; white-z = zero-in-range }
+good-content Rgb n g v p q r =
     record {
       text = good-text n p q;
       curve = good-curve g;
@@ -65,12 +68,12 @@ good-content isRgb n g v p q r =
       columns = all-same InRange 9 (pos 0) zero-in-range;
       cicp = good-cicp g v r;
     }
-good-content isXyb n g v p q r = tt
+good-content Xyb n g v p q r = tt
 
 good-intent : (k : Kind) (n : ℕ) (g v : Bool) → GoodIntent (kindOf (contentFor k n g v)) 0
-good-intent isGray n g v = omega arith
-good-intent isRgb n g v = omega arith
-good-intent isXyb n g v = refl
+good-intent Gray n g v = omega arith
+good-intent Rgb n g v = omega arith
+good-intent Xyb n g v = refl
 
 pub plain-valid : (s : Shape) → GoodShape s → Valid (plain s)
 plain-valid s g =
@@ -80,22 +83,22 @@ plain-valid s g =
     }
 
 kind-for : (k : Kind) (n : ℕ) (g v : Bool) → kindOf (contentFor k n g v) ≡ k
-kind-for isGray n g v = refl
-kind-for isRgb n g v = refl
-kind-for isXyb n g v = refl
+kind-for Gray n g v = refl
+kind-for Rgb n g v = refl
+kind-for Xyb n g v = refl
 
 pub plain-kind : (s : Shape) → kindOf (plain s .content) ≡ s .kind
 plain-kind s = kind-for (s .kind) (s .letters) (s .gamma) (s .cicp)
 
 slots-for : (k : Kind) (n : ℕ) (g v : Bool) → slotsOf (shapeOf (contentFor k n g v)) ≡ slotsFor k n g v
 unfolding slotsOf
-slots-for isGray n true v = simp length-replicate
-slots-for isGray n false v = simp length-replicate
-slots-for isRgb n true true = simp length-replicate
-slots-for isRgb n true false = simp length-replicate
-slots-for isRgb n false true = simp length-replicate
-slots-for isRgb n false false = simp length-replicate
-slots-for isXyb n g v = refl
+slots-for Gray n true v = simp length-replicate
+slots-for Gray n false v = simp length-replicate
+slots-for Rgb n true true = simp length-replicate
+slots-for Rgb n true false = simp length-replicate
+slots-for Rgb n false true = simp length-replicate
+slots-for Rgb n false false = simp length-replicate
+slots-for Xyb n g v = refl
 
 pub plain-slots : (s : Shape) → GoodShape s → slots (plain s) ≡ slotsOf s
 unfolding slotsOf

@@ -3,8 +3,9 @@ use Prim.Native.Nat.{ℕ, _≤_}
 use mathlib.Core.Path.{_≡_}
 use mathlib.Core.List.{List}
 use lib.ListN.{length}
-use Rattle.profile.specs.Plan.{Kind, GoodIntent}
-use Rattle.profile.specs.Shape.{Shape}
+use Rattle.profile.specs.Plan.{GoodIntent}
+use Rattle.profile.specs.declared.Kind.{Kind}
+use Rattle.profile.specs.declared.Shape.{Shape}
 use Rattle.reading.specs.Table.{varyingOf}
 use Rattle.reading.specs.Recover.{kindFrom, shapeIn}
 use Rattle.reading.specs.Reader.{Header}

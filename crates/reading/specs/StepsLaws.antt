@@ -3,10 +3,11 @@ use Prim.Native.Nat.{ℕ, _≤_}
 use mathlib.Core.Path.{_≡_, refl, ap, sym, _∙_, subst}
 use mathlib.Core.List.{List}
 use lib.ListN.{length}
-use Rattle.profile.specs.Plan.{Plan, Kind, GoodContent, GoodIntent, InRange, Wide}
+use Rattle.profile.specs.Plan.{Plan, GoodContent, GoodIntent, InRange, Wide}
+use Rattle.profile.specs.declared.Kind.{Kind}
 use Rattle.profile.specs.Layout.{profileId, layout, blanked}
 use Rattle.profile.specs.LayoutLaws.{length-id, blanked-withId}
-use Rattle.profile.specs.Shape.{Shape}
+use Rattle.profile.specs.declared.Shape.{Shape}
 use Rattle.md5.specs.Md5.{md5}
 use Rattle.reading.specs.Table.{varyingOf}
 use Rattle.reading.specs.Recover.{shapeIn, recover}

@@ -5,19 +5,15 @@ use mathlib.Core.List.{List, _++_}
 use native.Mathlib.Omega.{arith}
 use lib.ListN.{length, take, replicate, length-append}
 use lib.Seq.{take-at}
-use lib.IntN.{ℤ}
 use mir.Syntax.{w32}
 use mir.Val.{Fits}
 use borrow.Author.Tests.{le-leb, lt-leb}
 use Rattle.buffer.specs.Buffer.{put}
-use Rattle.profile.specs.Elements.{fileLength}
-use Rattle.profile.specs.Plan.{Plan, grayPlan, rgbPlan}
-use Rattle.profile.specs.Shape.{grayShape, rgbShape, slotsOf, shape}
+use Rattle.profile.specs.Plan.{Plan}
+use Rattle.profile.specs.Shape.{slotsOf, shape}
 use Rattle.profile.specs.PlanLaws.{Nines, at-most}
 use Rattle.profile.specs.Layout.{layout}
 use Rattle.profile.specs.LayoutLaws.{length-layout}
-use Rattle.profile.specs.declared.Curve.{Curve}
-use Rattle.profile.specs.declared.Cicp.{Cicp}
 use Rattle.buffer.specs.Checked.{Checked, is, refused}
 use Rattle.writer.specs.Writer.{answer, output}
 use Rattle.writer.specs.declared.Profile.{Profile}
@@ -30,18 +26,7 @@ letters d {bytes} z {n} e h = ap (take n) h ∙ take-at d _ n (sym e)
 pub letters-within : (d : List ℕ) {bytes : List ℕ} (z : ℕ) {n : ℕ} → n ≡ length d → bytes ≡ d ++ replicate z 0 → n ≤ length bytes
 letters-within d {bytes} z {n} e h = rw (h, e, length-append) (omega arith)
 
--- ---- the length that `layout` answers is that of the layout
-
-pub gray-size : (i : ℕ) (t : List ℕ) (c : Curve) (x z : ℤ) (n r : ℕ) → n ≡ length t → r ≡ fileLength (slotsOf (grayShape n c))
-    → r ≡ length (layout (grayPlan i t c x z))
-gray-size i t c x z n r e h = h ∙ ap (λ (k : ℕ). fileLength (slotsOf (grayShape k c))) e ∙ sym (length-layout (grayPlan i t c x z) tt)
-
-pub rgb-size : (i : ℕ) (t : List ℕ) (c : Curve) (m k : List ℤ) (v : Cicp) (n r : ℕ) → length m ≡ 9 → length k ≡ 9 → n ≡ length t
-    → r ≡ fileLength (slotsOf (rgbShape n c v)) → r ≡ length (layout (rgbPlan i t c m k v))
-rgb-size i t c m k v n r nine-m nine-k e h =
-    h ∙ ap (λ (j : ℕ). fileLength (slotsOf (rgbShape j c v))) e ∙ sym (length-layout (rgbPlan i t c m k v) (nine-m, nine-k))
-
--- ---- and it fits 32 bits
+-- ---- a layout fits 32 bits
 
 pub short-layout : (p : Plan) → Nines (p .content) → shape p .letters ≤ 372 → {r : ℕ} → r ≡ length (layout p) → Fits w32 r
 unfolding slotsOf

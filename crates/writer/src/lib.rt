@@ -11,11 +11,14 @@ use plan::CurveAnswer;
 use plan::GrayWhite;
 use profile::Cicp;
 use profile::Curve;
+use profile::CurveName;
+use profile::Kind;
+use profile::Numbers;
 pub use validate::Validation;
 pub use validate::validate_icc_matrix;
 ghost use mathlib.Core.Path.{_≡_};
 ghost use lib.ListN.{length};
-ghost use Rattle.profile.specs.Plan.{grayPlan, rgbPlan};
+ghost use Rattle.profile.specs.Plan as Plan;
 ghost use Rattle.text.specs.Description.{description};
 ghost use Rattle.text.specs.Held.{WhiteInRange};
 ghost use Rattle.buffer.specs.Checked.{is};
@@ -28,49 +31,21 @@ pub enum Profile {
     Refused(u32),
 }
 
-// Lays the gray plan of an encoding out, where the output has room for it.
-fn put_gray_plan(
-    encoding: JxlColorEncoding,
-    intent: u32,
-    curve: Curve,
-    x: i32,
-    z: i32,
-    out: &mut [u8],
-) -> Profile
+// Lays the plan of an encoding out, where the output has room for it.
+fn put_plan(encoding: JxlColorEncoding, plan: Numbers, out: &mut [u8]) -> Profile
     requires { ⌜ WhiteInRange encoding ⌝ }
-    ensures { λ r. ⌜ (r ≡ answer (is (grayPlan intent (description encoding) curve x z)) (length (now (out .entry)))) × (now (out .exit) ≡ output (is (grayPlan intent (description encoding) curve x z)) (now (out .entry))) ⌝ }
+    ensures { λ r. ⌜ (r ≡ answer (is (Plan.planOf plan (description encoding))) (length (now (out .entry)))) × (now (out .exit) ≡ output (is (Plan.planOf plan (description encoding))) (now (out .entry))) ⌝ }
 {
     let text = text::get_color_encoding_description(encoding);
     let letters = text.len;
     let bytes = text.bytes;
-    if out.len() < layout::gray_length(letters, curve) {
+    let kind = plan.kind;
+    let curve = plan.curve;
+    let cicp = plan.cicp;
+    if out.len() < layout::length(profile::shape_of(kind, curve, cicp, letters)) {
         return Profile::Refused(9);
     }
-    Profile::Written(layout::put_gray(out, intent, &bytes[..letters], curve, x, z) as u32)
-}
-
-// The same of an RGB plan.
-fn put_rgb_plan(
-    encoding: JxlColorEncoding,
-    intent: u32,
-    curve: Curve,
-    chad: [i32; 9],
-    columns: [i32; 9],
-    cicp: Cicp,
-    out: &mut [u8],
-) -> Profile
-    requires { ⌜ WhiteInRange encoding ⌝ }
-    ensures { λ r. ⌜ (r ≡ answer (is (rgbPlan intent (description encoding) curve chad columns cicp)) (length (now (out .entry)))) × (now (out .exit) ≡ output (is (rgbPlan intent (description encoding) curve chad columns cicp)) (now (out .entry))) ⌝ }
-{
-    let text = text::get_color_encoding_description(encoding);
-    let letters = text.len;
-    let bytes = text.bytes;
-    if out.len() < layout::rgb_length(letters, curve, cicp) {
-        return Profile::Refused(9);
-    }
-    Profile::Written(
-        layout::put_rgb(out, intent, &bytes[..letters], curve, chad, columns, cicp) as u32,
-    )
+    Profile::Written(layout::put_plan(out, plan, &bytes[..letters]) as u32)
 }
 
 fn write_gray(
@@ -94,7 +69,17 @@ fn write_gray(
                     transfer_function: transfer,
                     rendering_intent: intent,
                 };
-                put_gray_plan(encoding, intent.number(), curve, x, z, out)
+                let plan = Numbers {
+                    kind: Kind::Gray,
+                    intent: intent.number(),
+                    curve,
+                    cicp: Cicp::Absent,
+                    white_x: x,
+                    white_z: z,
+                    chad: [0; 9],
+                    columns: [0; 9],
+                };
+                put_plan(encoding, plan, out)
             }
         },
     }
@@ -133,29 +118,41 @@ fn write_rgb(
             let cicp = plan::cicp_of(white, primaries, curve);
             let chad_values = chad.values;
             let column_values = columns.values;
-            put_rgb_plan(
-                encoding,
-                intent.number(),
+            let plan = Numbers {
+                kind: Kind::Rgb,
+                intent: intent.number(),
                 curve,
-                chad_values,
-                column_values,
                 cicp,
-                out,
-            )
+                white_x: 0,
+                white_z: 0,
+                chad: chad_values,
+                columns: column_values,
+            };
+            put_plan(encoding, plan, out)
         }
     }
 }
 
-// XYB has the one plan, of 720 bytes, and the one intent.
+// XYB has the one plan and the one intent.
 fn write_xyb(intent: RenderingIntent, out: &mut [u8]) -> Profile
     ensures { λ r. ⌜ (r ≡ answer (planOf (JxlColorEncoding.XYB intent)) (length (now (out .entry)))) × (now (out .exit) ≡ output (planOf (JxlColorEncoding.XYB intent)) (now (out .entry))) ⌝ }
 {
     match intent {
         RenderingIntent::Perceptual => {
-            if out.len() < 720 {
-                return Profile::Refused(9);
-            }
-            Profile::Written(layout::put_xyb(out) as u32)
+            let encoding = JxlColorEncoding::XYB {
+                rendering_intent: RenderingIntent::Perceptual,
+            };
+            let plan = Numbers {
+                kind: Kind::Xyb,
+                intent: 0,
+                curve: Curve::Named(CurveName::BT709),
+                cicp: Cicp::Absent,
+                white_x: 0,
+                white_z: 0,
+                chad: [0; 9],
+                columns: [0; 9],
+            };
+            put_plan(encoding, plan, out)
         }
         RenderingIntent::Relative => Profile::Refused(2),
         RenderingIntent::Saturation => Profile::Refused(2),

@@ -30,7 +30,8 @@ use Rattle.color_encoding.specs.declared.JxlColorEncoding.{JxlColorEncoding}
 use Rattle.color_encoding.specs.declared.JxlColorEncoding.the-variants.{RgbColorSpace, GrayscaleColorSpace, XYB}
 use Rattle.colorimetry.specs.White.{cieXyzFromWhiteCieXy}
 use Rattle.profile.specs.Elements.{fileLength, start, bodySize, tagCount, padding}
-use Rattle.profile.specs.Plan.{Plan, isGray, isRgb, grayPlan, rgbPlan, xybPlan}
+use Rattle.profile.specs.Plan.{Plan, grayPlan, rgbPlan, xybPlan}
+use Rattle.profile.specs.declared.Kind.the-variants.{Gray, Rgb}
 use Rattle.profile.specs.Plan as Plan
 use Rattle.profile.specs.Shape.{isGamma, hasCicp, slotsFor, slotsOf}
 use Rattle.profile.specs.Layout.{layout}
@@ -104,16 +105,16 @@ rgb-letters w p F.HLG i h r e = absurd (never e)
 
 -- ---- the lengths of the files
 
-gray-most : (n : ℕ) (g : Bool) → n ≤ 372 → fileLength (slotsFor isGray n g false) ≤ 1200
+gray-most : (n : ℕ) (g : Bool) → n ≤ 372 → fileLength (slotsFor Gray n g false) ≤ 1200
 unfolding fileLength start bodySize tagCount padding
 gray-most n true h = omega arith
 gray-most n false h = omega arith
 
-gamma-most : (n : ℕ) → n ≤ 372 → fileLength (slotsFor isRgb n true false) ≤ 1200
+gamma-most : (n : ℕ) → n ≤ 372 → fileLength (slotsFor Rgb n true false) ≤ 1200
 unfolding fileLength start bodySize tagCount padding
 gamma-most n h = omega arith
 
-named-most : (n : ℕ) (v : Bool) → n ≤ 326 → fileLength (slotsFor isRgb n false v) ≤ 1200
+named-most : (n : ℕ) (v : Bool) → n ≤ 326 → fileLength (slotsFor Rgb n false v) ≤ 1200
 unfolding fileLength start bodySize tagCount padding
 named-most n true h = omega arith
 named-most n false h = omega arith

@@ -3,7 +3,6 @@
 use mathlib.Core.Bool.{false}
 use native.Mathlib.Omega.{arith}
 use borrow.Author.Needs.{needs}
-use Rattle.profile.specs.Shape.{slotsOf, isGamma}
 use Rattle.profile.specs.Elements.{fileLength}
 use Rattle.layout.proofs.TableParts.{small, gray-start, gray-body}
 use Rattle.layout.proofs.gray_length.Statement.{statement}
@@ -18,16 +17,16 @@ curve-size-requires c κs = search needs
 add-result : tie.Need-add-result
 add-result c =
     let start = c .before .before in
-    omega (arith, small (start .args .letters) (isGamma (start .args .curve)) false (start .pre))
+    omega (arith, small (start .args .letters) (start .args .gamma) false (start .pre))
 
 cast-result : tie.Need-cast-result
 cast-result c = search needs
 
 returns : tie.Need-returns
-unfolding slotsOf fileLength
+unfolding fileLength
 returns c =
     let start = c .before .before .args in
-    omega (arith, gray-start (start .letters) (start .curve), gray-body (start .letters) (isGamma (start .curve)))
+    omega (arith, gray-start (start .letters) (start .gamma), gray-body (start .letters) (start .gamma))
 
 pub gray-length-spec : {M : Type 1} → statement M
 gray-length-spec =

@@ -61,18 +61,19 @@ same-bytes-requires c κs = search needs
 
 returns : tie.Need-returns
 unfolding varyingOf
-returns c k is-class is-space =
+returns c =
     let id = c .before .before .before .before in
     let intent = id .before .before .before .before in
     let blank = intent .before .before .before in
     let start = blank .before .before .before in
     let f = start .args .file .now in
+    let k = start .args .kind in
     c .same-bytes .ensures
     ∙ ap (same (take 128 f))
     (id .put-bytes .ensures .1
     ∙ ap (λ (l : List ℕ). put l 84 (take 16 (drop 84 f)))
     (intent .put-u32-be .ensures .1
-    ∙ ap (λ (l : List ℕ). put l 64 (be32 (start .args .intent))) (blank .create-icc-header .ensures k is-class is-space))
+    ∙ ap (λ (l : List ℕ). put l 64 (be32 (start .args .intent))) (blank .create-icc-header .ensures))
     ∙ laid k (length f) (start .args .intent) (take 16 (drop 84 f)) (length-take-le 16 (drop 84 f) (simp length-drop (omega (arith, start .pre))))
     ∙ ap₂ (λ (n i : ℕ). header k (record { size = n; intent = i; id = take 16 (drop 84 f) })) (sym (start .pre .1)) (start .pre .2))
 

@@ -56,8 +56,8 @@ enum-known-curve c = search needs
 number-requires : tie.Need-number-requires
 number-requires c κs = search needs
 
-put-gray-plan-requires : tie.Need-put-gray-plan-requires
-put-gray-plan-requires c κs = tt
+put-plan-requires : tie.Need-put-plan-requires
+put-plan-requires c κs = tt
 
 returns-2 : tie.Need-returns-2
 returns-2 c =
@@ -83,7 +83,7 @@ returns-4 c =
     let x = toZ-ofZ w32 (xz .x .given .0 .0) (sfits-of (curve .before .known-told2 .given .0 .1)) in
     let z = toZ-ofZ w32 (xz .x .given .0 .1 .0) (sfits-of (curve .before .known-told2 .given .1 .0 .1)) in
     plan-known _ _ _ (gray-plan _ _ _ (not-hdr (xz .before .before)) (numbers-are xz) (sym (curve .curve-of .ensures) ∙ ap checkedCurve (known .curve .given .1)))
-    (rw (number .number .ensures, x, z) at (put .put-gray-plan .ensures))
+    (rw (number .number .ensures, x, z) at (put .put-plan .ensures))
 
 pub write-gray-spec : {M : Type 1} → statement M
 write-gray-spec =
@@ -99,7 +99,7 @@ write-gray-spec =
     enum-known-n-2
     enum-known-curve
     number-requires
-    put-gray-plan-requires
+    put-plan-requires
     returns-2
     returns-3
     same-length

@@ -83,8 +83,8 @@ cicp-of-requires c κs = search needs
 number-requires : tie.Need-number-requires
 number-requires c κs = search needs
 
-put-rgb-plan-requires : tie.Need-put-rgb-plan-requires
-put-rgb-plan-requires c κs =
+put-plan-requires : tie.Need-put-plan-requires
+put-plan-requires c κs =
     let columns = c .before .before .before .before .before .before .before .before .before in
     let chad = chadOf (columns .before .before) in
     white-in-range (start (chad .before .before) .args .white) _ (chad-kept chad)
@@ -109,7 +109,7 @@ returns-5 c =
     let columns = curve .before in
     let chad = chadOf (columns .before .before) in
     plan-known _ _ _ (rgb-plan _ _ _ _ (not-hdr (chad .before .before)) (chad-kept chad) (columns-kept columns) (sym (curve .curve-of .ensures) ∙ ap checkedCurve (known .curve .given .1)))
-    (rw (number .number .ensures, cicp .cicp-of .ensures) at (put .put-rgb-plan .ensures))
+    (rw (number .number .ensures, cicp .cicp-of .ensures) at (put .put-plan .ensures))
 
 pub write-rgb-spec : {M : Type 1} → statement M
 write-rgb-spec =
@@ -128,7 +128,7 @@ write-rgb-spec =
     enum-known-curve
     cicp-of-requires
     number-requires
-    put-rgb-plan-requires
+    put-plan-requires
     returns-4
     same-length
     returns-5)

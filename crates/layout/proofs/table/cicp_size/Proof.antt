@@ -1,25 +1,18 @@
--- By the case of `cicp`.
+-- By whether there is `cicp`.
 -- Assumes nothing.
 use mathlib.Core.Path.{ap, sym}
-use borrow.Author.Needs.{needs}
 use Rattle.profile.specs.Elements.{bodySize, padding}
-use Rattle.profile.specs.Shape.{cicpSlot, hasCicp}
+use Rattle.profile.specs.Shape.{cicpSlot}
 use Rattle.layout.proofs.table.cicp_size.Statement.{statement}
 use Rattle.layout.proofs.table.cicp_size.Tie as tie
 
-enum-told : tie.Need-enum-told
-enum-told c = search needs
-
-enum-told-2 : tie.Need-enum-told-2
-enum-told-2 c = search needs
-
 returns : tie.Need-returns
 unfolding bodySize padding
-returns c = sym (ap (λ x. bodySize (cicpSlot (hasCicp x))) (c .enum-told .given .1))
+returns c = sym (ap (λ x. bodySize (cicpSlot x)) (c .if1 .taken))
 
 returns-2 : tie.Need-returns-2
-unfolding bodySize padding
-returns-2 c = sym (ap (λ x. bodySize (cicpSlot (hasCicp x))) (c .enum-told2 .given .1))
+unfolding bodySize
+returns-2 c = sym (ap (λ x. bodySize (cicpSlot x)) (c .if1 .left))
 
 pub cicp-size-spec : {M : Type 1} → statement M
-cicp-size-spec = tie.close (tie.spec enum-told enum-told-2 returns returns-2)
+cicp-size-spec = tie.close (tie.spec returns returns-2)

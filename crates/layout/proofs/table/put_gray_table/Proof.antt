@@ -6,7 +6,6 @@ use borrow.Author.Needs.{needs}
 use Rattle.buffer.specs.Buffer.{put}
 use Rattle.profile.specs.RunsLaws.{next, done, runs}
 use Rattle.profile.specs.ElementsLaws.{length-entryBytes}
-use Rattle.profile.specs.Shape.{slotsOf, isGamma}
 use Rattle.layout.proofs.TableParts.{length-first-tags, gray-table}
 use Rattle.layout.proofs.table.put_gray_table.Statement.{statement}
 use Rattle.layout.proofs.table.put_gray_table.Tie as tie
@@ -27,7 +26,6 @@ same-length : tie.Need-same-length
 same-length c = search needs
 
 returns : tie.Need-returns
-unfolding slotsOf
 returns c =
     let s2 = c .before .before in
     let s1 = s2 .before .before .before .before .before .before .before .before in
@@ -38,7 +36,7 @@ returns c =
           (next (length-entryBytes _ refl) (s2 .put-tag .ensures)
           done)) (omega (arith, start .pre)) .1
           ∙ ap (put (start .args .out .now) 128)
-          (gray-table (start .args .letters) (isGamma (start .args .curve)) _ _ (s2 .before .before .fourth-offset .ensures) (s2 .before .curve-size .ensures)),
+          (gray-table (start .args .letters) (start .args .gamma) _ _ (s2 .before .before .fourth-offset .ensures) (s2 .before .curve-size .ensures)),
     )
 
 pub put-gray-table-spec : {M : Type 1} → statement M

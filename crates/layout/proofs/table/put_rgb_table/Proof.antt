@@ -7,7 +7,6 @@ use borrow.Author.Needs.{needs}
 use Rattle.buffer.specs.Buffer.{put}
 use Rattle.profile.specs.RunsLaws.{next, done, runs}
 use Rattle.profile.specs.ElementsLaws.{length-entryBytes}
-use Rattle.profile.specs.Shape.{slotsOf, isGamma, hasCicp}
 use Rattle.layout.proofs.TableParts.{length-first-tags, length-cicp-tags, length-color-tags, small, rgb-table}
 use Rattle.layout.proofs.table.put_rgb_table.Statement.{statement}
 use Rattle.layout.proofs.table.put_rgb_table.Tie as tie
@@ -16,85 +15,75 @@ cicp-tags-requires : tie.Need-cicp-tags-requires
 cicp-tags-requires c κs = search needs
 
 add-count : tie.Need-add-count
-unfolding slotsOf
 add-count c =
     let start = c .before .before in
-    omega (arith, start .pre, small (start .args .letters) (isGamma (start .args .curve)) (hasCicp (start .args .cicp)) (start .pre .0))
+    omega (arith, start .pre, small (start .args .letters) (start .args .gamma) (start .args .cicp) (start .pre .0))
 
 fourth-offset-requires : tie.Need-fourth-offset-requires
-unfolding slotsOf
 fourth-offset-requires c κs =
     let start = c .before .before in
-    omega (arith, start .pre, small (start .args .letters) (isGamma (start .args .curve)) (hasCicp (start .args .cicp)) (start .pre .0))
+    omega (arith, start .pre, small (start .args .letters) (start .args .gamma) (start .args .cicp) (start .pre .0))
 
 put-first-tags-requires : tie.Need-put-first-tags-requires
-unfolding slotsOf
 put-first-tags-requires c κs =
     let start = c .before .before .before .before in
-    omega (arith, start .pre, small (start .args .letters) (isGamma (start .args .curve)) (hasCicp (start .args .cicp)) (start .pre .0))
+    omega (arith, start .pre, small (start .args .letters) (start .args .gamma) (start .args .cicp) (start .pre .0))
 
 put-tag-requires : tie.Need-put-tag-requires
-unfolding slotsOf
 put-tag-requires c κs =
     let start = c .before .before .before .before .before .before .before .before .before .before in
-    omega (arith, start .pre, small (start .args .letters) (isGamma (start .args .curve)) (hasCicp (start .args .cicp)) (start .pre .0))
+    omega (arith, start .pre, small (start .args .letters) (start .args .gamma) (start .args .cicp) (start .pre .0))
 
 add-put-cicp-tag : tie.Need-add-put-cicp-tag
-unfolding slotsOf
 add-put-cicp-tag c =
     let start = c .before .before .before .before .before .before .before .before .before .before .before .before .before .before in
-    omega (arith, start .pre, small (start .args .letters) (isGamma (start .args .curve)) (hasCicp (start .args .cicp)) (start .pre .0))
+    omega (arith, start .pre, small (start .args .letters) (start .args .gamma) (start .args .cicp) (start .pre .0))
 
 put-cicp-tag-requires : tie.Need-put-cicp-tag-requires
-unfolding slotsOf
 put-cicp-tag-requires c κs =
     let start = c .before .before .before .before .before .before .before .before .before .before .before .before .before .before in
-    omega (arith, start .pre, small (start .args .letters) (isGamma (start .args .curve)) (hasCicp (start .args .cicp)) (start .pre .0))
+    omega (arith, start .pre, small (start .args .letters) (start .args .gamma) (start .args .cicp) (start .pre .0))
 
 add-put-color-tags : tie.Need-add-put-color-tags
-unfolding slotsOf
 add-put-color-tags c =
     let start = c .before .before .before .before .before .before .before .before .before .before .before .before .before .before .before .before .before .before in
-    omega (arith, start .pre, small (start .args .letters) (isGamma (start .args .curve)) (hasCicp (start .args .cicp)) (start .pre .0))
+    omega (arith, start .pre, small (start .args .letters) (start .args .gamma) (start .args .cicp) (start .pre .0))
 
 cicp-size-requires : tie.Need-cicp-size-requires
 cicp-size-requires c κs = search needs
 
 add-put-color-tags-2 : tie.Need-add-put-color-tags-2
-unfolding slotsOf
 add-put-color-tags-2 c =
     let start = c .before .before .before .before .before .before .before .before .before .before .before .before .before .before .before .before .before .before .before in
-    omega (arith, start .pre, small (start .args .letters) (isGamma (start .args .curve)) (hasCicp (start .args .cicp)) (start .pre .0))
+    omega (arith, start .pre, small (start .args .letters) (start .args .gamma) (start .args .cicp) (start .pre .0))
 
 curve-size-requires : tie.Need-curve-size-requires
 curve-size-requires c κs = search needs
 
 put-color-tags-requires : tie.Need-put-color-tags-requires
-unfolding slotsOf
 put-color-tags-requires c κs =
     let start = c .before .before .before .before .before .before .before .before .before .before .before .before .before .before .before .before .before .before .before .before in
-    omega (arith, start .pre, small (start .args .letters) (isGamma (start .args .curve)) (hasCicp (start .args .cicp)) (start .pre .0))
+    omega (arith, start .pre, small (start .args .letters) (start .args .gamma) (start .args .cicp) (start .pre .0))
 
 same-length : tie.Need-same-length
 same-length c = search needs
 
 returns : tie.Need-returns
-unfolding slotsOf
 returns c =
     let s4 = c .before .before in
     let s3 = s4 .before .before .before .before .before .before in
     let s2 = s3 .before .before .before .before in
     let s1 = s2 .before .before .before .before .before .before in
     let start = s1 .before .before .before .before .before in (
-      omega (arith, small (start .args .letters) (isGamma (start .args .curve)) (hasCicp (start .args .cicp)) (start .pre .0)),
+      omega (arith, small (start .args .letters) (start .args .gamma) (start .args .cicp) (start .pre .0)),
       runs
           (next (length-first-tags _ _) (s1 .put-first-tags .ensures)
           (next (length-entryBytes _ refl) (s2 .put-tag .ensures)
-          (next (length-cicp-tags _ (hasCicp (start .args .cicp))) (s3 .put-cicp-tag .ensures)
+          (next (length-cicp-tags _ (start .args .cicp)) (s3 .put-cicp-tag .ensures)
           (next (length-color-tags _ _) (s4 .put-color-tags .ensures)
-          done)))) (omega (arith, start .pre, small (start .args .letters) (isGamma (start .args .curve)) (hasCicp (start .args .cicp)) (start .pre .0))) .1
+          done)))) (omega (arith, start .pre, small (start .args .letters) (start .args .gamma) (start .args .cicp) (start .pre .0))) .1
           ∙ ap (put (start .args .out .now) 128)
-          (rgb-table (start .args .letters) (isGamma (start .args .curve)) (hasCicp (start .args .cicp)) _ _ _ _
+          (rgb-table (start .args .letters) (start .args .gamma) (start .args .cicp) _ _ _ _
           (ap (λ (n : ℕ). 10 + n) (s1 .before .before .before .cicp-tags .ensures)) (s1 .before .before .fourth-offset .ensures)
           (s4 .before .before .cicp-size .ensures) (s4 .before .curve-size .ensures)),
     )

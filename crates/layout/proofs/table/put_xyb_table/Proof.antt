@@ -7,7 +7,6 @@ use borrow.Author.Needs.{needs}
 use Rattle.buffer.specs.Buffer.{put}
 use Rattle.profile.specs.RunsLaws.{next, done, runs}
 use Rattle.profile.specs.ElementsLaws.{length-entryBytes}
-use Rattle.profile.specs.Shape.{slotsOf}
 use Rattle.layout.proofs.TableParts.{length-first-tags, small, xyb-table}
 use Rattle.layout.proofs.table.put_xyb_table.Statement.{statement}
 use Rattle.layout.proofs.table.put_xyb_table.Tie as tie
@@ -40,7 +39,6 @@ same-length : tie.Need-same-length
 same-length c = search needs
 
 returns : tie.Need-returns
-unfolding slotsOf
 returns c =
     let s4 = c .before .before in
     let s3 = s4 .before .before .before .before .before .before in

@@ -8,9 +8,10 @@ use borrow.Author.Needs.{needs}
 use lib.IntN.{ℤ}
 use lib.ListN.{length, take, drop}
 use mir.Syntax.{w32}
-use mir.Val.{toZ, ofZ}
+use mir.Val.{SFits, toZ, ofZ}
 use mir.ValLaws.{toZ-ofZ}
-use Rattle.profile.specs.Plan.{isGray, grayPlan}
+use Rattle.profile.specs.Plan.{grayPlan}
+use Rattle.profile.specs.declared.Kind.the-variants.{Gray}
 use Rattle.profile.specs.declared.Curve.{Curve}
 use Rattle.reading.specs.Table.{varyingOf}
 use Rattle.reading.specs.Recover.{recover, numberIn, lowBytes, curveIn}
@@ -40,30 +41,40 @@ curve-at-requires c κs = rw (c .fourth-offset .ensures) (long (c .before .befor
 read-letters-requires : tie.Need-read-letters-requires
 read-letters-requires c κs = let s = c .before .before .before .before .before .before in (room s, s .pre .0 .table-is .good .short)
 
-module _ (n : ℕ) (g : Bool) (f : List ℕ) (t : Tabled (shaped isGray n g false) f) (bytes : Bytes f) (p : ℕ) where
+module _ (n : ℕ) (g : Bool) (f : List ℕ) (t : Tabled (shaped Gray n g false) f) (bytes : Bytes f) (p : ℕ) where
   -- a number is handed on as it was read
   passed : (a : ℕ) {x : ℤ} → x ≡ numberIn (drop a f) → toZ w32 (ofZ w32 x) ≡ numberIn (drop a f)
   passed a e = ap (λ (y : ℤ). toZ w32 (ofZ w32 y)) e ∙ toZ-ofZ w32 (numberIn (drop a f)) (number-fits (drop a f) (bytes-drop a f bytes))
+
+  number-good : (a : ℕ) {x : ℤ} → x ≡ numberIn (drop a f) → SFits w32 (toZ w32 (ofZ w32 x))
+  number-good a e = rw (passed a e) (number-fits (drop a f) (bytes-drop a f bytes))
 
   plan-read : {i : ℕ} {l : List ℕ} {w : Curve} {x z : ℤ} → p ≡ fourth 4 n → i ≡ varyingOf f .intent → l ≡ lowBytes (take (2 * n) (drop 208 f)) → w ≡ curveIn g (drop p f)
       → x ≡ numberIn (drop (p - 12) f) → z ≡ numberIn (drop (p - 4) f) → recover f ≡ grayPlan i l w (toZ w32 (ofZ w32 x)) (toZ w32 (ofZ w32 z))
   plan-read ep ei el ew ex ez = recover-gray n g false f t ∙ rw (passed (p - 12) ex, passed (p - 4) ez, ei, el, ew, ep)
 
-gray-plan-requires : tie.Need-gray-plan-requires
-gray-plan-requires c κs =
+plan-is-requires : tie.Need-plan-is-requires
+plan-is-requires c κs =
     let m = c .before .before .before .before .before in
     let s = m .before .before .before in
     let g = s .args .gamma in
     let p = m .before .fourth-offset .result in
     let bytes : Bytes (file s) = λ i. m .before .before .shared-slice-known .given i .fits in
     let curve = m .curve-at .ensures in
-    let text = c .before .read-letters .ensures in (
-      rw (gamma-read g (drop p (file s)) curve) (s .pre .0),
-      plan-read (letters s) g (file s) (s .pre .0) bytes p (m .before .fourth-offset .ensures) (s .pre .1) (letters-read (file s) 208 (letters s) (room s) text) curve
-          (c .before .before .before .before .number-at .ensures) (c .before .before .before .number-at2 .ensures),
-      array-read (file s) 208 (letters s) (room s) text,
-      rw curve (curve-fits g (drop p (file s)) (bytes-drop p (file s) bytes)),
-    )
+    let x = c .before .before .before .before .number-at .ensures in
+    let z = c .before .before .before .number-at2 .ensures in
+    let text = c .before .read-letters .ensures in
+    record {
+      tabled = rw (gamma-read g (drop p (file s)) curve) (s .pre .0);
+      short = s .pre .0 .table-is .good .short;
+      recovered =
+          plan-read (letters s) g (file s) (s .pre .0) bytes p (m .before .fourth-offset .ensures) (s .pre .1) (letters-read (file s) 208 (letters s) (room s) text) curve x z;
+      text-is = array-read (file s) 208 (letters s) (room s) text;
+      fits = (
+        rw curve (curve-fits g (drop p (file s)) (bytes-drop p (file s) bytes)),
+        (number-good (letters s) g (file s) (s .pre .0) bytes p (p - 12) x, number-good (letters s) g (file s) (s .pre .0) bytes p (p - 4) z),
+      );
+    }
 
 pub gray-body-spec : {M : Type 1} → statement M
 gray-body-spec =
@@ -78,5 +89,5 @@ gray-body-spec =
     (λ c κs. search needs)
     (λ c. search needs)
     read-letters-requires
-    gray-plan-requires
+    plan-is-requires
     (λ c. search needs))

@@ -1,11 +1,9 @@
 -- `cicp_body` meets its contract: each field is read where the plan has it (`recover-cicp`), and the table gives each place its room.
 use Prim.Native.Nat.{ℕ, _+_, _*_, _≤_}
-use mathlib.Core.Path.{refl}
 use mathlib.Core.List.{List}
 use native.Mathlib.Omega.{arith}
 use borrow.Author.Needs.{needs}
 use lib.ListN.{length}
-use Rattle.profile.specs.Elements.{start, tagCount}
 use Rattle.profile.specs.declared.Cicp.the-variants.{Primaries}
 use Rattle.reading.specs.PartsLaws.{curve-long, cicp-length, recover-cicp}
 use Rattle.reader.proofs.RgbBodies.{rgb-asked}
@@ -43,16 +41,15 @@ columns-at-requires c κs =
 read-letters-requires : tie.Need-read-letters-requires
 read-letters-requires c κs = let p = c .before .before .before .before .before in (room p, from p .pre .0 .table-is .good .short)
 
-rgb-plan-requires : tie.Need-rgb-plan-requires
-unfolding start tagCount
-rgb-plan-requires c κs =
+plan-is-requires : tie.Need-plan-is-requires
+plan-is-requires c κs =
     let b = c .before .before .before in
     let k = b .before in
     let p = k .before .before .before in
     let s = p .before .before in
     rgb-asked (file s) (λ i. p .before .shared-slice-known .given i .fits) (letters s) (s .args .gamma) (Primaries (b .byte-at .result)) (s .pre .0) 292
     (p .fourth-offset .result) 64 (room p)
-    (rw (b .byte-at .ensures, p .fourth-offset .ensures) (recover-cicp (letters s) (s .args .gamma) (file s) (s .pre .0))) refl (s .pre .1)
+    (rw (b .byte-at .ensures, p .fourth-offset .ensures) (recover-cicp (letters s) (s .args .gamma) (file s) (s .pre .0))) (s .pre .1)
     (c .before .read-letters .ensures) (k .before .before .curve-at .ensures) (k .before .nine-numbers-at .ensures) (k .columns-at .ensures)
 
 pub cicp-body-spec : {M : Type 1} → statement M
@@ -73,5 +70,5 @@ cicp-body-spec =
     (λ c κs. search needs)
     (λ c. search needs)
     read-letters-requires
-    rgb-plan-requires
+    plan-is-requires
     (λ c. search needs))

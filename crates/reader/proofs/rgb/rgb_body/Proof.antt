@@ -1,11 +1,9 @@
 -- `rgb_body` meets its contract: each field is read where the plan has it (`recover-rgb`), and the table gives each place its room.
 use Prim.Native.Nat.{ℕ, _+_, _*_, _≤_}
-use mathlib.Core.Path.{refl}
 use mathlib.Core.List.{List}
 use native.Mathlib.Omega.{arith}
 use borrow.Author.Needs.{needs}
 use lib.ListN.{length}
-use Rattle.profile.specs.Elements.{start, tagCount}
 use Rattle.profile.specs.declared.Cicp.the-variants.{Absent}
 use Rattle.reading.specs.PartsLaws.{curve-long, rgb-length, recover-rgb}
 use Rattle.reader.proofs.RgbBodies.{rgb-asked}
@@ -43,15 +41,14 @@ columns-at-requires c κs =
 read-letters-requires : tie.Need-read-letters-requires
 read-letters-requires c κs = let p = c .before .before .before .before in (room p, from p .pre .0 .table-is .good .short)
 
-rgb-plan-requires : tie.Need-rgb-plan-requires
-unfolding start tagCount
-rgb-plan-requires c κs =
+plan-is-requires : tie.Need-plan-is-requires
+plan-is-requires c κs =
     let k = c .before .before .before in
     let p = k .before .before .before in
     let s = p .before .before in
     rgb-asked (file s) (λ i. p .before .shared-slice-known .given i .fits) (letters s) (s .args .gamma) Absent (s .pre .0) 280
     (p .fourth-offset .result) 52 (room p)
-    (rw (p .fourth-offset .ensures) (recover-rgb (letters s) (s .args .gamma) (file s) (s .pre .0))) refl (s .pre .1)
+    (rw (p .fourth-offset .ensures) (recover-rgb (letters s) (s .args .gamma) (file s) (s .pre .0))) (s .pre .1)
     (c .before .read-letters .ensures) (k .before .before .curve-at .ensures) (k .before .nine-numbers-at .ensures) (k .columns-at .ensures)
 
 pub rgb-body-spec : {M : Type 1} → statement M
@@ -70,5 +67,5 @@ rgb-body-spec =
     columns-at-requires
     (λ c. search needs)
     read-letters-requires
-    rgb-plan-requires
+    plan-is-requires
     (λ c. search needs))
