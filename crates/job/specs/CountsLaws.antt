@@ -6,7 +6,8 @@ use native.Mathlib.Nat.{zero-add}
 use native.Mathlib.Omega.{arith}
 use lib.ListN.{length, take, drop, getD, length-append, length-drop}
 use lib.Seq.{drop-drop, drop-cons}
-use Rattle.buffer.specs.Checked.{is, refused, then}
+use Rattle.buffer.specs.Checked.{Checked, is, refused, then}
+use Rattle.color_encoding.specs.declared.JxlColorEncoding.{JxlColorEncoding}
 use Rattle.job.specs.Job.{Section, Entry, gray, rgb, xyb, sections, entriesFrom, count, cut, meaning, told, entryAlone, grayEncoding, rgbEncoding, xybEncoding}
 use Rattle.job.specs.JobLaws.{cut-whole, cut-early, cut-end, cut-left, length-entriesFrom, in-section, past-section}
 use Rattle.job.specs.Counts.{SpanIs, entriesBy, toldOf}
@@ -64,6 +65,13 @@ module _ (l : List ℕ) where
 
 pub length-entriesBy : (l : List ℕ) (g r x : ℕ) → length (entriesBy l g r x) ≡ g + r + x
 length-entriesBy l g r x = simp (length-append, length-entriesFrom) (omega arith)
+
+-- what a part of m bytes from a place on means, answered as an entry
+pub told-part : (n k at m : ℕ) (f : List ℕ → Checked JxlColorEncoding) (l : List ℕ) {a : EntryAnswer} {c : Checked JxlColorEncoding}
+    → a ≡ toldOf n k c → c ≡ f (take (at + m - at) (drop at l)) → a ≡ toldOf n k (f (take m (drop at l)))
+told-part n k at m f l e h =
+    let size : at + m - at ≡ m = omega arith in
+    e ∙ ap (toldOf n k) h ∙ ap (λ (j : ℕ). toldOf n k (f (take j (drop at l)))) size
 
 abbrev alone : Entry → EntryAnswer
 alone e = told (meaning e)

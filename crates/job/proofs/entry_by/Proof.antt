@@ -1,19 +1,13 @@
 -- Where an entry stands, by the laws of CountsLaws. Assumes nothing.
-use Prim.Native.Nat.{ℕ, _+_, _*_, _-_}
-use mathlib.Core.Path.{_≡_, sym, ap, _∙_}
+use Prim.Native.Nat.{_+_, _*_, _-_}
+use mathlib.Core.Path.{sym, _∙_}
 use native.Mathlib.Omega.{arith}
-use lib.ListN.{take, drop}
 use Rattle.job.specs.Job.{grayEncoding, rgbEncoding, xybEncoding}
-use Rattle.job.specs.Counts.{toldOf}
 use Rattle.job.specs.FairJob.{fair-entry}
-use Rattle.job.specs.CountsLaws.{in-gray, in-rgb, in-xyb, past-all}
+use Rattle.job.specs.CountsLaws.{told-part, in-gray, in-rgb, in-xyb, past-all}
 use borrow.Author.Needs.{needs}
 use Rattle.job.proofs.entry_by.Statement.{statement}
 use Rattle.job.proofs.entry_by.Tie as tie
-
--- the length of a part
-part : (at n : ℕ) → at + n - at ≡ n
-part at n = omega arith
 
 mul-at : tie.Need-mul-at
 mul-at c = search needs
@@ -44,14 +38,13 @@ answered-requires c κs = search needs
 
 returns : tie.Need-returns
 returns c =
-    let l = c .before .before .before .before .before .args .job .now in
-    let g = c .before .before .before .before .before .args .gray in
-    let r = c .before .before .before .before .before .args .rgb in
-    let x = c .before .before .before .before .before .args .xyb in
-    let i = c .before .before .before .before .before .args .i in
-    let here = c .answered .ensures ∙ ap (toldOf 1 (i + 1)) (c .before .gray-encoding .ensures)
-    ∙ ap (λ (n : ℕ). toldOf 1 (i + 1) (grayEncoding (take n (drop (1 + i * 15) l)))) (part (1 + i * 15) 15) in
-    fair-entry l g r x i (c .before .before .before .before .before .pre) (here ∙ sym (in-gray l g r x i (omega arith)))
+    let start = c .before .before .before .before .before in
+    let l = start .args .job .now in
+    let g = start .args .gray in
+    let r = start .args .rgb in
+    let x = start .args .xyb in
+    let i = start .args .i in
+    fair-entry l g r x i (start .pre) (told-part 1 (i + 1) (1 + i * 15) 15 grayEncoding l (c .answered .ensures) (c .before .gray-encoding .ensures) ∙ sym (in-gray l g r x i (omega arith)))
 
 mul-at-2 : tie.Need-mul-at-2
 mul-at-2 c = search needs
@@ -88,14 +81,13 @@ answered-requires-2 c κs = search needs
 
 returns-2 : tie.Need-returns-2
 returns-2 c =
-    let l = c .before .before .before .before .before .before .args .job .now in
-    let g = c .before .before .before .before .before .before .args .gray in
-    let r = c .before .before .before .before .before .before .args .rgb in
-    let x = c .before .before .before .before .before .before .args .xyb in
-    let i = c .before .before .before .before .before .before .args .i in
-    let here = c .answered2 .ensures ∙ ap (toldOf 2 ((i - g) + 1)) (c .before .rgb-encoding .ensures)
-    ∙ ap (λ (n : ℕ). toldOf 2 ((i - g) + 1) (rgbEncoding (take n (drop (2 + g * 15 + (i - g) * 40) l)))) (part (2 + g * 15 + (i - g) * 40) 40) in
-    fair-entry l g r x i (c .before .before .before .before .before .before .pre) (here ∙ sym (in-rgb l g r x i (omega arith) (omega arith)))
+    let start = c .before .before .before .before .before .before in
+    let l = start .args .job .now in
+    let g = start .args .gray in
+    let r = start .args .rgb in
+    let x = start .args .xyb in
+    let i = start .args .i in
+    fair-entry l g r x i (start .pre) (told-part 2 (i - g + 1) (2 + g * 15 + (i - g) * 40) 40 rgbEncoding l (c .answered2 .ensures) (c .before .rgb-encoding .ensures) ∙ sym (in-rgb l g r x i (omega arith) (omega arith)))
 
 mul-at-4 : tie.Need-mul-at-4
 mul-at-4 c = search needs
@@ -138,14 +130,13 @@ answered-requires-3 c κs = search needs
 
 returns-3 : tie.Need-returns-3
 returns-3 c =
-    let l = c .before .before .before .before .before .before .before .args .job .now in
-    let g = c .before .before .before .before .before .before .before .args .gray in
-    let r = c .before .before .before .before .before .before .before .args .rgb in
-    let x = c .before .before .before .before .before .before .before .args .xyb in
-    let i = c .before .before .before .before .before .before .before .args .i in
-    let here = c .answered3 .ensures ∙ ap (toldOf 3 ((i - g - r) + 1)) (c .before .xyb-encoding .ensures)
-    ∙ ap (λ (n : ℕ). toldOf 3 ((i - g - r) + 1) (xybEncoding (take n (drop (3 + g * 15 + r * 40 + (i - g - r) * 1) l)))) (part (3 + g * 15 + r * 40 + (i - g - r) * 1) 1) in
-    fair-entry l g r x i (c .before .before .before .before .before .before .before .pre) (here ∙ sym (in-xyb l g r x i (omega arith) (omega arith) (omega arith)))
+    let start = c .before .before .before .before .before .before .before in
+    let l = start .args .job .now in
+    let g = start .args .gray in
+    let r = start .args .rgb in
+    let x = start .args .xyb in
+    let i = start .args .i in
+    fair-entry l g r x i (start .pre) (told-part 3 (i - g - r + 1) (3 + g * 15 + r * 40 + (i - g - r) * 1) 1 xybEncoding l (c .answered3 .ensures) (c .before .xyb-encoding .ensures) ∙ sym (in-xyb l g r x i (omega arith) (omega arith) (omega arith)))
 
 returns-4 : tie.Need-returns-4
 returns-4 c =

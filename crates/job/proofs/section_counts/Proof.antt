@@ -26,19 +26,24 @@ returns c =
     let l = c .before .before .before .before .args .job .now in
     record { by = early-gray l (known l 0 15 (c .enum-told .given .1) (c .before .before .section-at .ensures)); filled = lit≤ tt }
 
+-- the sections that were found whole
+gray-is : (c : tie.After-known-told) → SpanIs (c .before .before .before .before .before .args .job .now) 0 15 (Whole (c .before .gray .given .0 .0))
+gray-is c = known (c .before .before .before .before .before .args .job .now) 0 15 (c .before .gray .given .1) (c .before .before .before .section-at .ensures)
+
+rgb-is : (c : tie.After-known-told2)
+    → SpanIs (c .before .before .before .before .before .before .before .before .before .args .job .now) (1 + c .before .before .before .before .before .gray .given .0 .0 * 15) 40 (Whole (c .before .rgb .given .0 .0))
+rgb-is c = known (c .before .before .before .before .before .before .before .before .before .args .job .now) (1 + c .before .before .before .before .before .gray .given .0 .0 * 15) 40 (c .before .rgb .given .1) (c .before .before .before .section-at2 .ensures)
+
+xyb-is : (c : tie.After-known-told3)
+    → SpanIs (c .before .before .before .before .before .before .before .before .before .before .before .before .before .args .job .now) (1 + c .before .before .before .before .before .before .before .before .before .gray .given .0 .0 * 15 + 1 + c .before .before .before .before .before .rgb .given .0 .0 * 40) 1 (Whole (c .before .xyb .given .0 .0))
+xyb-is c =
+    known (c .before .before .before .before .before .before .before .before .before .before .before .before .before .args .job .now) (1 + c .before .before .before .before .before .before .before .before .before .gray .given .0 .0 * 15 + 1 + c .before .before .before .before .before .rgb .given .0 .0 * 40) 1 (c .before .xyb .given .1) (c .before .before .before .section-at3 .ensures)
+
 mul-rgb-at : tie.Need-mul-rgb-at
-mul-rgb-at c =
-    let l = c .before .before .before .before .before .args .job .now in
-    let g = c .before .gray .given .0 .0 in
-    let a : SpanIs l 0 15 (Whole g) = known l 0 15 (c .before .gray .given .1) (c .before .before .before .section-at .ensures) in
-    omega (arith, a .2)
+mul-rgb-at c = omega (arith, gray-is c .2)
 
 add-rgb-at : tie.Need-add-rgb-at
-add-rgb-at c =
-    let l = c .before .before .before .before .before .args .job .now in
-    let g = c .before .gray .given .0 .0 in
-    let a : SpanIs l 0 15 (Whole g) = known l 0 15 (c .before .gray .given .1) (c .before .before .before .section-at .ensures) in
-    omega (arith, a .2)
+add-rgb-at c = omega (arith, gray-is c .2)
 
 section-at-requires-2 : tie.Need-section-at-requires-2
 section-at-requires-2 c κs = search needs
@@ -53,35 +58,16 @@ returns-2 : tie.Need-returns-2
 returns-2 c =
     let l = c .before .before .before .before .before .before .before .before .args .job .now in
     let g = c .before .before .before .before .gray .given .0 .0 in
-    let a : SpanIs l 0 15 (Whole g) = known l 0 15 (c .before .before .before .before .gray .given .1) (c .before .before .before .before .before .before .section-at .ensures) in
-    record { by = early-rgb l g a (known l (1 + g * 15) 40 (c .enum-told2 .given .1) (c .before .before .section-at2 .ensures)); filled = lit≤ tt }
+    record { by = early-rgb l g (gray-is (c .before .before .before)) (known l (1 + g * 15) 40 (c .enum-told2 .given .1) (c .before .before .section-at2 .ensures)); filled = lit≤ tt }
 
 add-xyb-at : tie.Need-add-xyb-at
-add-xyb-at c =
-    let l = c .before .before .before .before .before .before .before .before .before .args .job .now in
-    let g = c .before .before .before .before .before .gray .given .0 .0 in
-    let a : SpanIs l 0 15 (Whole g) = known l 0 15 (c .before .before .before .before .before .gray .given .1) (c .before .before .before .before .before .before .before .section-at .ensures) in
-    let r = c .before .rgb .given .0 .0 in
-    let d : SpanIs l (1 + g * 15) 40 (Whole r) = known l (1 + g * 15) 40 (c .before .rgb .given .1) (c .before .before .before .section-at2 .ensures) in
-    omega (arith, a .2)
+add-xyb-at c = omega (arith, gray-is (c .before .before .before .before) .2)
 
 mul-xyb-at : tie.Need-mul-xyb-at
-mul-xyb-at c =
-    let l = c .before .before .before .before .before .before .before .before .before .args .job .now in
-    let g = c .before .before .before .before .before .gray .given .0 .0 in
-    let a : SpanIs l 0 15 (Whole g) = known l 0 15 (c .before .before .before .before .before .gray .given .1) (c .before .before .before .before .before .before .before .section-at .ensures) in
-    let r = c .before .rgb .given .0 .0 in
-    let d : SpanIs l (1 + g * 15) 40 (Whole r) = known l (1 + g * 15) 40 (c .before .rgb .given .1) (c .before .before .before .section-at2 .ensures) in
-    omega (arith, d .2)
+mul-xyb-at c = omega (arith, rgb-is c .2)
 
 add-xyb-at-2 : tie.Need-add-xyb-at-2
-add-xyb-at-2 c =
-    let l = c .before .before .before .before .before .before .before .before .before .args .job .now in
-    let g = c .before .before .before .before .before .gray .given .0 .0 in
-    let a : SpanIs l 0 15 (Whole g) = known l 0 15 (c .before .before .before .before .before .gray .given .1) (c .before .before .before .before .before .before .before .section-at .ensures) in
-    let r = c .before .rgb .given .0 .0 in
-    let d : SpanIs l (1 + g * 15) 40 (Whole r) = known l (1 + g * 15) 40 (c .before .rgb .given .1) (c .before .before .before .section-at2 .ensures) in
-    omega (arith, a .2, d .2)
+add-xyb-at-2 c = omega (arith, gray-is (c .before .before .before .before) .2, rgb-is c .2)
 
 section-at-requires-3 : tie.Need-section-at-requires-3
 section-at-requires-3 c κs = search needs
@@ -96,58 +82,31 @@ returns-3 : tie.Need-returns-3
 returns-3 c =
     let l = c .before .before .before .before .before .before .before .before .before .before .before .before .args .job .now in
     let g = c .before .before .before .before .before .before .before .before .gray .given .0 .0 in
-    let a : SpanIs l 0 15 (Whole g) = known l 0 15 (c .before .before .before .before .before .before .before .before .gray .given .1) (c .before .before .before .before .before .before .before .before .before .before .section-at .ensures) in
     let r = c .before .before .before .before .rgb .given .0 .0 in
-    let d : SpanIs l (1 + g * 15) 40 (Whole r) = known l (1 + g * 15) 40 (c .before .before .before .before .rgb .given .1) (c .before .before .before .before .before .before .section-at2 .ensures) in
-    record { by = early-xyb l g a r d (known l (1 + g * 15 + 1 + r * 40) 1 (c .enum-told3 .given .1) (c .before .before .section-at3 .ensures)); filled = lit≤ tt }
+    record { by = early-xyb l g (gray-is (c .before .before .before .before .before .before .before)) r (rgb-is (c .before .before .before)) (known l (1 + g * 15 + 1 + r * 40) 1 (c .enum-told3 .given .1) (c .before .before .section-at3 .ensures)); filled = lit≤ tt }
 
 add-if1 : tie.Need-add-if1
-add-if1 c =
-    let l = c .before .before .before .before .before .before .before .before .before .before .before .before .before .args .job .now in
-    let g = c .before .before .before .before .before .before .before .before .before .gray .given .0 .0 in
-    let a : SpanIs l 0 15 (Whole g) = known l 0 15 (c .before .before .before .before .before .before .before .before .before .gray .given .1) (c .before .before .before .before .before .before .before .before .before .before .before .section-at .ensures) in
-    let r = c .before .before .before .before .before .rgb .given .0 .0 in
-    let d : SpanIs l (1 + g * 15) 40 (Whole r) = known l (1 + g * 15) 40 (c .before .before .before .before .before .rgb .given .1) (c .before .before .before .before .before .before .before .section-at2 .ensures) in
-    let x = c .before .xyb .given .0 .0 in
-    let e : SpanIs l (1 + g * 15 + 1 + r * 40) 1 (Whole x) = known l (1 + g * 15 + 1 + r * 40) 1 (c .before .xyb .given .1) (c .before .before .before .section-at3 .ensures) in
-    omega (arith, a .2, d .2)
+add-if1 c = omega (arith, gray-is (c .before .before .before .before .before .before .before .before) .2, rgb-is (c .before .before .before .before) .2)
 
 mul-if1 : tie.Need-mul-if1
 mul-if1 c = search needs
 
 add-if1-2 : tie.Need-add-if1-2
-add-if1-2 c =
-    let l = c .before .before .before .before .before .before .before .before .before .before .before .before .before .args .job .now in
-    let g = c .before .before .before .before .before .before .before .before .before .gray .given .0 .0 in
-    let a : SpanIs l 0 15 (Whole g) = known l 0 15 (c .before .before .before .before .before .before .before .before .before .gray .given .1) (c .before .before .before .before .before .before .before .before .before .before .before .section-at .ensures) in
-    let r = c .before .before .before .before .before .rgb .given .0 .0 in
-    let d : SpanIs l (1 + g * 15) 40 (Whole r) = known l (1 + g * 15) 40 (c .before .before .before .before .before .rgb .given .1) (c .before .before .before .before .before .before .before .section-at2 .ensures) in
-    let x = c .before .xyb .given .0 .0 in
-    let e : SpanIs l (1 + g * 15 + 1 + r * 40) 1 (Whole x) = known l (1 + g * 15 + 1 + r * 40) 1 (c .before .xyb .given .1) (c .before .before .before .section-at3 .ensures) in
-    omega (arith, a .2, d .2, e .2)
+add-if1-2 c = omega (arith, gray-is (c .before .before .before .before .before .before .before .before) .2, rgb-is (c .before .before .before .before) .2, xyb-is c .2)
 
 returns-4 : tie.Need-returns-4
 returns-4 c =
     let l = c .before .before .before .before .before .before .before .before .before .before .before .before .before .before .args .job .now in
-    let g = c .before .before .before .before .before .before .before .before .before .before .gray .given .0 .0 in
-    let a : SpanIs l 0 15 (Whole g) = known l 0 15 (c .before .before .before .before .before .before .before .before .before .before .gray .given .1) (c .before .before .before .before .before .before .before .before .before .before .before .before .section-at .ensures) in
-    let r = c .before .before .before .before .before .before .rgb .given .0 .0 in
-    let d : SpanIs l (1 + g * 15) 40 (Whole r) = known l (1 + g * 15) 40 (c .before .before .before .before .before .before .rgb .given .1) (c .before .before .before .before .before .before .before .before .section-at2 .ensures) in
-    let x = c .before .before .xyb .given .0 .0 in
-    let e : SpanIs l (1 + g * 15 + 1 + r * 40) 1 (Whole x) = known l (1 + g * 15 + 1 + r * 40) 1 (c .before .before .xyb .given .1) (c .before .before .before .before .section-at3 .ensures) in
-    record { by = bytes-left l g a r d x e (omega arith); filled = lit≤ tt }
+    record { by = bytes-left l _ (gray-is (c .before .before .before .before .before .before .before .before .before)) _ (rgb-is (c .before .before .before .before .before)) _ (xyb-is (c .before)) (omega arith); filled = lit≤ tt }
 
 returns-5 : tie.Need-returns-5
 returns-5 c =
     let l = c .before .before .before .before .before .before .before .before .before .before .before .before .before .before .args .job .now in
-    let g = c .before .before .before .before .before .before .before .before .before .before .gray .given .0 .0 in
-    let a : SpanIs l 0 15 (Whole g) = known l 0 15 (c .before .before .before .before .before .before .before .before .before .before .gray .given .1) (c .before .before .before .before .before .before .before .before .before .before .before .before .section-at .ensures) in
-    let r = c .before .before .before .before .before .before .rgb .given .0 .0 in
-    let d : SpanIs l (1 + g * 15) 40 (Whole r) = known l (1 + g * 15) 40 (c .before .before .before .before .before .before .rgb .given .1) (c .before .before .before .before .before .before .before .before .section-at2 .ensures) in
-    let x = c .before .before .xyb .given .0 .0 in
-    let e : SpanIs l (1 + g * 15 + 1 + r * 40) 1 (Whole x) = known l (1 + g * 15 + 1 + r * 40) 1 (c .before .before .xyb .given .1) (c .before .before .before .before .section-at3 .ensures) in
-    let all : 3 + g * 15 + r * 40 + x ≡ length l = omega (arith, e .1) in
-    record { by = all-there l g a r d x e all; filled = (all, a .2, d .2, e .2) }
+    let a = gray-is (c .before .before .before .before .before .before .before .before .before) in
+    let d = rgb-is (c .before .before .before .before .before) in
+    let e = xyb-is (c .before) in
+    let all : 3 + c .before .before .before .before .before .before .before .before .before .before .gray .given .0 .0 * 15 + c .before .before .before .before .before .before .rgb .given .0 .0 * 40 + c .before .before .xyb .given .0 .0 ≡ length l = omega (arith, e .1) in
+    record { by = all-there l _ a _ d _ e all; filled = (all, a .2, d .2, e .2) }
 
 pub section-counts-spec : {M : Type 1} → statement M
 section-counts-spec =
