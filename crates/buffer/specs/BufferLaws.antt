@@ -6,9 +6,10 @@ use mathlib.Core.List.{List, [], _∷_, _++_, append-assoc}
 use native.Mathlib.Nat.{add-zero, add-assoc}
 use native.Mathlib.Omega.{arith}
 use native.Mathlib.Numerals.{add-one, add-two, add-three}
-use lib.ListN.{length, take, drop, set, length-append, length-drop, take-append-drop}
+use lib.ListN.{length, take, drop, set, length-append, length-drop, length-replicate, replicate-append-replicate, take-append-drop}
 use lib.Seq.{take-at, drop-at, drop-drop, length-take-le, drop-append-add, sets, sets-eq, paste, take-length}
 use Rattle.buffer.specs.Buffer.{put}
+use Rattle.buffer.specs.Bytes.{zeros}
 
 -- ---- `put`
 
@@ -58,3 +59,10 @@ four-stores l i a b c d h = rw (add-one, add-two, add-three) (stores (a ∷ b �
 pub copied : (l : List ℕ) (i : ℕ) (q : List ℕ) → paste l i q (length q) ≡ put l i q
 unfolding put
 copied l i q = simp (take-length, append-assoc)
+
+-- a run of bytes that grows
+pub grown : (l : List ℕ) (i : ℕ) (p q r : List ℕ) (k : ℕ) → i ≤ length l → k ≡ i + length p → r ≡ p ++ q → put (put l i p) k q ≡ put l i r
+grown l i p q r k h e f = rw (e, f) (put-put l i p q h)
+
+pub zeros-grown : (l : List ℕ) (at i : ℕ) → at ≤ length l → put (put l at (zeros i)) (at + i) (0 ∷ []) ≡ put l at (zeros (i + 1))
+zeros-grown l at i h = grown l at (zeros i) (0 ∷ []) _ (at + i) h (rw length-replicate) (sym (replicate-append-replicate i 1 0))

@@ -1,7 +1,12 @@
 pub mod All
+pub mod AllLaws
 pub mod Ascii
+pub mod AsciiLaws
+pub mod BoolLaws
 pub mod Buffer
 pub mod BufferLaws
+pub mod Bytes
+pub mod BytesLaws
 pub mod Checked
 pub mod CheckedLaws
 pub mod Puts

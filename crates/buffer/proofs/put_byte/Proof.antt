@@ -1,8 +1,7 @@
--- One store is a run of one byte: the law `one-store`.
+-- One store is a run of one byte: the law `store`.
 -- Assumes nothing.
-use mathlib.Core.Path.{refl}
 use borrow.Author.Needs.{needs}
-use Rattle.buffer.specs.BufferLaws.{one-store}
+use Rattle.buffer.specs.PutsLaws.{store}
 use Rattle.buffer.proofs.put_byte.Statement.{statement}
 use Rattle.buffer.proofs.put_byte.Tie as tie
 
@@ -16,7 +15,7 @@ same-length : tie.Need-same-length
 same-length c = search needs
 
 returns : tie.Need-returns
-returns c = (refl, one-store _ _ _ (c .pre))
+returns c = store _ _ _ (c .pre)
 
 pub put-byte-spec : {M : Type 1} → statement M
 put-byte-spec = tie.close (tie.spec slice-write-out add-result same-length returns)

@@ -53,7 +53,7 @@ same-length c = search needs
 returns : tie.Need-returns Inv-loop μ-loop
 returns c =
     let end : c .before .loop .i ≡ length (c .before .before .args .bytes .now) = omega arith in
-    (omega arith, rw (c .before .loop .inv .1, end) (copied _ _ _))
+    record { size = refl; place = omega arith; bytes = rw (c .before .loop .inv .1, end) (copied _ _ _) }
 
 pub put-bytes-spec : {M : Type 1} → statement M
 put-bytes-spec =
