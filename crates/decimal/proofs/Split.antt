@@ -22,7 +22,7 @@ module _ (k n high : ℕ) (e : high ≡ n / 10 ^ k) where
   whole : n ≡ high * 10 ^ k + (n - high * 10 ^ k)
   whole = rw (rest, e) (sym (div-add-mod' n (10 ^ k)))
 
-  pub rest-lt : n - high * 10 ^ k < 10 ^ k
+  rest-lt : n - high * 10 ^ k < 10 ^ k
   rest-lt = rw rest (mod-lt n (ten-pos k))
 
   pub split-last : (j : ℕ) → lastDigits (j + k) n ≡ lastDigits j high ++ lastDigits k (n - high * 10 ^ k)
@@ -46,9 +46,9 @@ two-digits n h g =
     small a h = omega arith
 
 -- a whole part and seven decimals
-pub pointed : (whole rest : ℕ) → rest < 10 ^ 7 → withPoint (whole * 10 ^ 7 + rest) ≡ digits whole ++ (46 ∷ lastDigits 7 rest)
+pub withPoint-is : (whole rest : ℕ) → rest < 10 ^ 7 → withPoint (whole * 10 ^ 7 + rest) ≡ digits whole ++ (46 ∷ lastDigits 7 rest)
 unfolding withPoint
-pointed whole rest h = ap₂ (λ (n : ℕ) (l : List ℕ). digits n ++ (46 ∷ l)) (quotient whole rest h) (last-above 7 whole rest h)
+withPoint-is whole rest h = ap₂ (λ (n : ℕ) (l : List ℕ). digits n ++ (46 ∷ l)) (quotient whole rest h) (last-above 7 whole rest h)
   where
     quotient : (w r : ℕ) → r < 10 ^ 7 → (w * 10 ^ 7 + r) / 10 ^ 7 ≡ w
     quotient w r h = omega arith

@@ -1,20 +1,23 @@
 -- From the pattern of a binary32 value to its text: the value is the fields' number of units of 2 ^ -149, and the text depends on the value alone.
 -- Assumes nothing.
 use mathlib.Core.Path.{_≡_, refl, sym, ap, _∙_, subst}
-use mathlib.Core.Bool.{Bool, true, false, not, cond, true≢false}
+use mathlib.Core.Bool.{Bool, true, false, not, cond}
 use mathlib.Core.List.{List, [], _∷_, _++_}
-use Prim.Native.Nat.{ℕ, zero, suc, _+_, _-_, _*_, _/_, _%_, _^_, _≤_, _<_, compare}
-use native.Mathlib.Nat.{mul-assoc, mul-right-comm, mul-one, div-one, mod-one}
+use Prim.Native.Nat.{ℕ, _+_, _-_, _*_, _/_, _%_, _^_, _≤_, _<_}
+use native.Mathlib.Nat.{mul-assoc, mul-right-comm}
 use native.Mathlib.Omega.{arith}
-use lib.Dec.{T, leb, eqb, eqb·suc-zero, lit<, leb→le, nleb→lt}
+use lib.Dec.{T, leb, eqb, leb→le, nleb→lt}
 use lib.Pow.{pow-add, pow-pos}
-use lib.Ieee.{Float, nan, inf, fin, binary32, up, down, nearest, odd, fits, isNan, ofBits, ofFields, toBits, ne}
+use lib.Ieee.{Float, nan, inf, fin, binary32, up, down, fits, isNan, ofFields, toBits, ne}
 use lib.Ieee.Fits.{down-pos}
-use lib.Ieee.Exact.{HasValue, odd-sign}
+use lib.Ieee.Exact.{HasValue}
 use lib.Ieee.Nearest.{closest, closest-same}
-use lib.Ieee.Bits.{ofBits-toBits, toBits-lt}
+use lib.Ieee.Bits.{toBits-lt}
 use lib.Ieee.Compare.{differs-from-itself}
 use borrow.Author.Tests.{ne-eqb, eq-eqb}
+use Rattle.floats.specs.Fields.{significand}
+use Rattle.floats.specs.FieldsLaws.{fields-of, at-top, field-value}
+use Rattle.floats.specs.RoundingLaws.{closest-whole}
 use Rattle.decimal.specs.Seven.{minus, withPoint, sevenDecimals}
 
 -- ---- equal fractions, rounded
@@ -31,18 +34,12 @@ fewer a f h g =
     turned : (a b c p : ℕ) → a * p * (b * c) ≡ a * b * p * c
     turned a b c p = sym (mul-assoc (a * p) b c) ∙ ap (λ (x : ℕ). x * c) (mul-right-comm a p b)
 
-exact : (x b : ℕ) → 0 < b → closest (x * b) b ≡ x
-exact x b h =
-    closest-same (x * b) b x 1 h (lit< tt) (mul-one (x * b))
-    ∙ ap (λ (w : ℕ). nearest w (compare (x % 1 * 2) 1)) (div-one x)
-    ∙ ap (λ (r : ℕ). nearest x (compare (r * 2) 1)) (mod-one x)
-
 -- a whole number
 pub whole : (a f : ℕ) → 150 ≤ f → a * 2 ^ (f - 150) * 10 ^ 7 ≡ closest (a * 2 ^ (f - 1) * 10 ^ 7) (2 ^ 149)
 whole a f h =
     sym (ap (λ (x : ℕ). closest (x * 10 ^ 7) (2 ^ 149)) (ap (λ (n : ℕ). a * 2 ^ n) (up-to f h) ∙ ap (λ (x : ℕ). a * x) (pow-add 2 (f - 150) 149) ∙ sym (mul-assoc a (2 ^ (f - 150)) (2 ^ 149)))
     ∙ ap (λ (x : ℕ). closest x (2 ^ 149)) (mul-right-comm (a * 2 ^ (f - 150)) (2 ^ 149) (10 ^ 7))
-    ∙ exact (a * 2 ^ (f - 150) * 10 ^ 7) (2 ^ 149) (pow-pos 149))
+    ∙ closest-whole (a * 2 ^ (f - 150) * 10 ^ 7) (2 ^ 149) (pow-pos 149))
   where
     up-to : (f : ℕ) → 150 ≤ f → f - 1 ≡ f - 150 + 149
     up-to f h = omega arith
@@ -59,45 +56,11 @@ of-value (fin t m e) s a c C h =
     (closest-same (m * up e * 10 ^ 7) (down e) (a * 10 ^ 7) c (down-pos e) C
     (mul-right-comm (m * up e) (10 ^ 7) c ∙ ap (λ (x : ℕ). x * 10 ^ 7) (h .1) ∙ mul-right-comm a (down e) (10 ^ 7)))
 
--- ---- the value by the fields
-
-abbrev pub significand : ℕ → ℕ → ℕ
-significand field t = cond (eqb field 0) t (2 ^ 23 + t)
-
-value : (s : Bool) (field t : ℕ) → field < 255 → HasValue (ofFields binary32 s field t) s (significand field t * 2 ^ (field - 1)) (2 ^ 149)
-unfolding ofFields
-value s zero t h = odd-sign 24 s t 0 149
-value s (suc x) t h =
-    subst (λ (k : ℕ). HasValue (ofFields binary32 s (suc x) t) s (significand (suc x) t * 2 ^ k) (2 ^ 149)) (less x)
-    (subst (λ (q : ℕ). HasValue (ofFields binary32 s (suc x) t) s (q * 2 ^ x) (2 ^ 149)) (ap (λ (b : Bool). cond b t (2 ^ 23 + t)) (sym (eqb·suc-zero x)))
-    (subst (λ (b : Bool). HasValue (cond b (cond (eqb t 0) (inf s) nan) (odd 24 s (2 ^ 23 + t) x 149)) s ((2 ^ 23 + t) * 2 ^ x) (2 ^ 149))
-    (sym (ne-eqb (suc x) 255 (ne (suc x) h))) (odd-sign 24 s (2 ^ 23 + t) x 149)))
-  where
-    less : (x : ℕ) → x ≡ suc x - 1
-    less x = omega arith
-
-    ne : (y : ℕ) → y < 255 → y ≡ 255 → ⊥
-    ne y h e = omega arith
-
 -- ---- the fields by the pattern
-
-pub equals-itself : (x : Float) → ne x x ≡ false → T (not (isNan x))
-unfolding ne isNan
-equals-itself nan h = absurd (true≢false h)
-equals-itself (inf s) h = tt
-equals-itself (fin s m e) h = tt
 
 pub nan-text : (x : Float) → ne x x ≡ true → sevenDecimals x ≡ 78 ∷ 97 ∷ 78 ∷ []
 unfolding sevenDecimals
 nan-text x h = ap sevenDecimals (differs-from-itself x (subst T (sym h) tt))
-
-ofBits-is : (b : ℕ) → ofBits binary32 b ≡ ofFields binary32 (leb (2 ^ 31) b) (b % 2 ^ 31 / 2 ^ 23) (b % 2 ^ 23)
-unfolding ofBits
-ofBits-is b = refl
-
-at-top : (s : Bool) (t : ℕ) → ofFields binary32 s 255 t ≡ cond (eqb t 0) (inf s) nan
-unfolding ofFields
-at-top s t = refl
 
 inf-text : (s z : Bool) → T (not (isNan (cond z (inf s) nan))) → sevenDecimals (cond z (inf s) nan) ≡ minus s ++ (105 ∷ 110 ∷ 102 ∷ [])
 unfolding isNan sevenDecimals
@@ -134,18 +97,18 @@ module _ (x : Float) (F : T (fits binary32 x)) where
   b-lt = toBits-lt binary32 x F
 
   read : ofFields binary32 (leb (2 ^ 31) b) f t ≡ x
-  read = sym (ofBits-is b) ∙ ofBits-toBits binary32 x F
+  read = fields-of binary32 x F
 
-  pub finite-text : f < 255 → sevenDecimals x ≡ sign ++ withPoint (closest (significand f t * 2 ^ (f - 1) * 10 ^ 7) (2 ^ 149))
+  pub finite-text : f < 255 → sevenDecimals x ≡ sign ++ withPoint (closest (significand binary32 f t * 2 ^ (f - 1) * 10 ^ 7) (2 ^ 149))
   finite-text h =
       ap sevenDecimals (sym read)
-      ∙ of-value (ofFields binary32 (leb (2 ^ 31) b) f t) (leb (2 ^ 31) b) (significand f t * 2 ^ (f - 1)) (2 ^ 149) (pow-pos 149) (value (leb (2 ^ 31) b) f t h)
-      ∙ ap (λ (s : Bool). minus s ++ withPoint (closest (significand f t * 2 ^ (f - 1) * 10 ^ 7) (2 ^ 149))) (sign-is b b-lt)
+      ∙ of-value (ofFields binary32 (leb (2 ^ 31) b) f t) (leb (2 ^ 31) b) (significand binary32 f t * 2 ^ (f - 1)) (2 ^ 149) (pow-pos 149) (field-value binary32 (leb (2 ^ 31) b) f t h)
+      ∙ ap (λ (s : Bool). minus s ++ withPoint (closest (significand binary32 f t * 2 ^ (f - 1) * 10 ^ 7) (2 ^ 149))) (sign-is b b-lt)
 
   pub infinite-text : T (not (isNan x)) → f ≡ 255 → sevenDecimals x ≡ sign ++ (105 ∷ 110 ∷ 102 ∷ [])
   infinite-text n e =
       let s = leb (2 ^ 31) b in
-      let is : x ≡ cond (eqb t 0) (inf s) nan = sym read ∙ ap (λ (k : ℕ). ofFields binary32 s k t) e ∙ at-top s t in
+      let is : x ≡ cond (eqb t 0) (inf s) nan = sym read ∙ ap (λ (k : ℕ). ofFields binary32 s k t) e ∙ at-top binary32 s t in
       ap sevenDecimals is
       ∙ inf-text s (eqb t 0) (subst (λ (v : Float). T (not (isNan v))) is n)
       ∙ ap (λ (u : Bool). minus u ++ (105 ∷ 110 ∷ 102 ∷ [])) (sign-is b b-lt)

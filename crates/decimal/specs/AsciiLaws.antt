@@ -2,7 +2,7 @@
 -- Assumes nothing.
 use mathlib.Core.Bool.{Bool, true, false, _&&_, cond}
 use mathlib.Core.List.{List, [], _∷_, _++_}
-use Prim.Native.Nat.{ℕ, zero, suc, _+_, _*_, _/_, _%_, _^_, _≤_, _<_}
+use Prim.Native.Nat.{ℕ, zero, suc, _*_, _/_, _%_, _^_, _≤_, _<_}
 use native.Mathlib.Omega.{arith}
 use lib.Dec.{T, leb, ltb, leb→le, ltb→lt, lit≤}
 use lib.Ieee.{Float, nan, inf, fin, up, down, size}
@@ -12,12 +12,12 @@ use Rattle.decimal.specs.Decimal.{digit, lastDigits, digitsUpTo, digits}
 use Rattle.decimal.specs.Seven.{minus, withPoint, sevenDecimals}
 use Rattle.buffer.specs.Ascii.{Ascii}
 use Rattle.buffer.specs.All.{none, more}
+use Rattle.buffer.specs.AllLaws.{All-append}
 
--- ---- lists
+-- ---- texts
 
 pub append : (a b : List ℕ) → Ascii a → Ascii b → Ascii (a ++ b)
-append [] b h g = g
-append (x ∷ a) b (more p h) g = more p (append a b h g)
+append a b h g = All-append h g
 
 -- letters that are written out: the test computes
 abbrev pub letters : List ℕ → Bool
@@ -33,7 +33,7 @@ written (a ∷ l) t = more (leb→le a 127 (and-l (leb a 127) (letters l) t)) (w
 one : (d : ℕ) → d < 10 → Ascii (digit d ∷ [])
 one d h = let low : digit d ≤ 127 = omega arith in more low none
 
-pub ascii-last : (k n : ℕ) → Ascii (lastDigits k n)
+ascii-last : (k n : ℕ) → Ascii (lastDigits k n)
 unfolding lastDigits
 ascii-last zero n = none
 ascii-last (suc k) n = append (lastDigits k (n / 10)) (digit (n % 10) ∷ []) (ascii-last k (n / 10)) (one (n % 10) (omega arith))
@@ -47,13 +47,13 @@ ascii-up-to (suc k) n = go (append (digitsUpTo k (n / 10)) (digit (n % 10) ∷ [
     go h true s = one n (s tt)
     go h false s = h
 
-pub ascii-digits : (n : ℕ) → Ascii (digits n)
+ascii-digits : (n : ℕ) → Ascii (digits n)
 unfolding digits
 ascii-digits n = ascii-up-to (size n) n
 
-ascii-pointed : (q : ℕ) → Ascii (withPoint q)
+ascii-withPoint : (q : ℕ) → Ascii (withPoint q)
 unfolding withPoint
-ascii-pointed q = append (digits (q / 10 ^ 7)) (46 ∷ lastDigits 7 q) (ascii-digits (q / 10 ^ 7)) (more (lit≤ tt) (ascii-last 7 q))
+ascii-withPoint q = append (digits (q / 10 ^ 7)) (46 ∷ lastDigits 7 q) (ascii-digits (q / 10 ^ 7)) (more (lit≤ tt) (ascii-last 7 q))
 
 ascii-minus : (s : Bool) → Ascii (minus s)
 ascii-minus true = written (45 ∷ []) tt
@@ -63,4 +63,4 @@ pub ascii-seven : (x : Float) → Ascii (sevenDecimals x)
 unfolding sevenDecimals
 ascii-seven nan = written (78 ∷ 97 ∷ 78 ∷ []) tt
 ascii-seven (inf s) = append (minus s) (105 ∷ 110 ∷ 102 ∷ []) (ascii-minus s) (written (105 ∷ 110 ∷ 102 ∷ []) tt)
-ascii-seven (fin s m e) = append (minus s) (withPoint (closest (m * up e * 10 ^ 7) (down e))) (ascii-minus s) (ascii-pointed (closest (m * up e * 10 ^ 7) (down e)))
+ascii-seven (fin s m e) = append (minus s) (withPoint (closest (m * up e * 10 ^ 7) (down e))) (ascii-minus s) (ascii-withPoint (closest (m * up e * 10 ^ 7) (down e)))

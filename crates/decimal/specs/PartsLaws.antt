@@ -11,7 +11,7 @@ use lib.Dec.{ltb}
 use lib.ListN.{length}
 use Rattle.decimal.specs.Decimal.{digits, lastDigits}
 use Rattle.decimal.specs.DecimalLaws.{digits-append, some-digit, length-digits}
-use Rattle.buffer.specs.Puts.{Puts}
+use Rattle.buffer.specs.Puts.{PutsText}
 use Rattle.buffer.specs.PutsLaws.{then}
 use Rattle.decimal.specs.Parts.{shown, part}
 
@@ -66,6 +66,6 @@ grows (suc v) p start i h e =
     pos v p = omega arith
 
 -- a part written after the parts above it
-pub next-part : {l m o : List ℕ} {start i j : ℕ} (v p : ℕ) → start ≤ length l → p < 10 ^ 8 → Puts l start (shown v) i m
-    → Puts m i (part (ltb start i) p) j o → Puts l start (shown (v * 10 ^ 8 + p)) j o
+pub next-part : {l m o : List ℕ} {start i j : ℕ} (v p : ℕ) → start ≤ length l → p < 10 ^ 8 → PutsText l start (shown v) i m
+    → PutsText m i (part (ltb start i) p) j o → PutsText l start (shown (v * 10 ^ 8 + p)) j o
 next-part {l} {m} {o} {start} {i} {j} v p s h a b = then (shown (v * 10 ^ 8 + p)) s a b (grows v p start i h (a .place))

@@ -1,19 +1,22 @@
--- How long the text of a binary32 value is, and that it is ASCII.
+-- How long the text of a binary32 value is.
 -- Assumes nothing.
 use mathlib.Core.Path.{_≡_, refl, sym, ap, subst}
 use mathlib.Core.Bool.{Bool, true, false, _&&_, _||_, true≢false}
 use mathlib.Core.Logic.{_⊎_, inl, inr, ⊎-elim}
 use mathlib.Core.List.{_++_}
-use Prim.Native.Nat.{ℕ, zero, suc, _+_, _-_, _*_, _/_, _%_, _^_, _≤_, _<_, compare}
-use native.Mathlib.Nat.{le-trans, lt-of-le-of-lt, lt-of-lt-of-le, mul-right-comm, mul-lt-mul-of-pos-right, le-of-eq, div-lt-iff-lt-mul, div-le-of-le-mul, mul-comm, mul-pos, mul-one, one-mul, mul-le-mul-right, le-of-lt, zero-mul}
+use Prim.Native.Nat.{ℕ, zero, suc, _+_, _*_, _/_, _%_, _^_, _≤_, _<_}
+use native.Mathlib.Nat.{le-trans, lt-of-le-of-lt, lt-of-lt-of-le, mul-right-comm, mul-lt-mul-of-pos-right, le-of-eq, div-le-of-le-mul, mul-comm, mul-pos, mul-one, one-mul, mul-le-mul-right, le-of-lt, zero-mul}
 use native.Mathlib.Omega.{arith}
 use lib.Dec.{T, eqb, leb, ltb, ltb→lt, eqb→eq, lit<, lit≤}
 use lib.ListN.{length, length-append}
 use lib.IntN.{pos}
 use lib.Ieee.{Float, nan, inf, fin, binary32, up, down, fits, ofBits, lt, le, eq, below, level}
-use lib.Ieee.Fits.{down-pos, nearest-le, and-r}
+use lib.Ieee.Fits.{down-pos, and-r}
 use lib.Ieee.Nearest.{closest, closest-mono}
-use Rattle.decimal.specs.DecimalLaws.{length-last, length-digits, some-digit}
+use Rattle.buffer.specs.BoolLaws.{both-left}
+use Rattle.floats.specs.Binary32.{zero as zero32, one as one32}
+use Rattle.floats.specs.RoundingLaws.{closest-le}
+use Rattle.decimal.specs.DecimalLaws.{length-last, length-digits}
 use Rattle.decimal.specs.Seven.{minus, withPoint, sevenDecimals}
 
 -- ---- lengths
@@ -23,17 +26,9 @@ length-minus true = lit≤ tt
 length-minus false = lit≤ tt
 
 -- with at most k + 1 digits before the point
-pub length-pointed : (k q : ℕ) → q / 10 ^ 7 < 10 ^ suc k → length (withPoint q) ≤ k + 9
+length-withPoint : (k q : ℕ) → q / 10 ^ 7 < 10 ^ suc k → length (withPoint q) ≤ k + 9
 unfolding withPoint
-length-pointed k q h = simp (length-append, length-last 7 q) (omega (arith, length-digits k (q / 10 ^ 7) h))
-
-pub some-pointed : (q : ℕ) → 1 ≤ length (withPoint q)
-unfolding withPoint
-some-pointed q = simp length-append (omega (arith, some-digit (q / 10 ^ 7)))
-
--- a / b below n, to the nearest, is at most n
-pub closest-le : (a b n : ℕ) → 0 < b → a < n * b → closest a b ≤ n
-closest-le a b n B h = le-trans (nearest-le (a / b) (compare (a % b * 2) b)) (div-lt-iff-lt-mul B .1 h)
+length-withPoint k q h = simp (length-append, length-last 7 q) (omega (arith, length-digits k (q / 10 ^ 7) h))
 
 finite-range : (m d : ℕ) → 0 < d → m < 2 ^ 128 * d → closest (m * 10 ^ 7) d / 10 ^ 7 < 10 ^ 39
 finite-range m d D h = lt-of-le-of-lt (whole (closest (m * 10 ^ 7) d) (closest-le (m * 10 ^ 7) d (2 ^ 128 * 10 ^ 7) D (lt-of-lt-of-le (mul-lt-mul-of-pos-right {k = 10 ^ 7} h (lit< tt)) (le-of-eq (mul-right-comm (2 ^ 128) d (10 ^ 7)))))) (lit< {m = 2 ^ 128} {n = 10 ^ 39} tt)
@@ -52,9 +47,6 @@ signed s q n h = simp length-append (omega (arith, length-minus s))
 unsigned : (s : Bool) (q : ℕ) → s ≡ false → length (withPoint q) ≤ 9 → length (minus s ++ withPoint q) ≤ 9
 unsigned s q e h = subst (λ (t : Bool). length (minus t ++ withPoint q) ≤ 9) (sym e) h
 
-some-signed : (s : Bool) (q : ℕ) → 1 ≤ length (minus s ++ withPoint q)
-some-signed s q = simp length-append (omega (arith, some-pointed q))
-
 -- "-", 39 digits, ".", 7 digits
 pub length-seven : (x : Float) → T (fits binary32 x) → length (sevenDecimals x) ≤ 48
 unfolding sevenDecimals
@@ -62,23 +54,9 @@ length-seven nan h = lit≤ tt
 length-seven (inf true) h = lit≤ tt
 length-seven (inf false) h = lit≤ tt
 length-seven (fin s m e) h =
-    signed s (closest (m * up e * 10 ^ 7) (down e)) 47 (length-pointed 38 (closest (m * up e * 10 ^ 7) (down e)) (finite-range (m * up e) (down e) (down-pos e) (finite-below s m e h)))
-
-pub some-seven : (x : Float) → 1 ≤ length (sevenDecimals x)
-unfolding sevenDecimals
-some-seven nan = lit≤ tt
-some-seven (inf true) = lit≤ tt
-some-seven (inf false) = lit≤ tt
-some-seven (fin s m e) = some-signed s (closest (m * up e * 10 ^ 7) (down e))
+    signed s (closest (m * up e * 10 ^ 7) (down e)) 47 (length-withPoint 38 (closest (m * up e * 10 ^ 7) (down e)) (finite-range (m * up e) (down e) (down-pos e) (finite-below s m e h)))
 
 -- ---- from 0 to 1
-
--- 0.0 and 1.0
-abbrev pub nought : Float
-nought = ofBits binary32 0
-
-abbrev pub unit : Float
-unit = ofBits binary32 0x3f80_0000
 
 at-most-one : (m d : ℕ) → 0 < d → m ≤ d → closest (m * 10 ^ 7) d / 10 ^ 7 < 10
 at-most-one m d D h = whole (closest (m * 10 ^ 7) d) (le-trans (closest-mono (m * 10 ^ 7) d (10 ^ 7) 1 D (lit< tt) (le-trans (le-of-eq (mul-one (m * 10 ^ 7))) (le-trans (mul-le-mul-right (10 ^ 7) h) (le-of-eq (mul-comm d (10 ^ 7)))))) (lit≤ tt))
@@ -90,17 +68,13 @@ or-cases : (a b : Bool) → (a || b) ≡ true → (a ≡ true) ⊎ (b ≡ true)
 or-cases true b e = inl refl
 or-cases false b e = inr e
 
-and-first : (a b : Bool) → (a && b) ≡ true → a ≡ true
-and-first true b e = refl
-and-first false b e = absurd (true≢false (sym e))
-
 -- a number with the sign s and the size a / d, at least 0 (z is 0) and at most 1
 in-range : (s : Bool) (z a d : ℕ) → z ≡ 0 → (below false z s a || level false z s a) ≡ true → (below s a false d || level s a false d) ≡ true → a ≤ d
 in-range false z a d n f g =
     ⊎-elim (λ (e : ltb a d ≡ true). le-of-lt (ltb→lt a d (subst T (sym e) tt)))
-    (λ (e : level false a false d ≡ true). le-of-eq (eqb→eq a d (subst T (sym (and-first (eqb a d) _ e)) tt)))
+    (λ (e : level false a false d ≡ true). le-of-eq (eqb→eq a d (subst T (sym (both-left (eqb a d) _ e)) tt)))
     (or-cases (ltb a d) (level false a false d) g)
-in-range true z a d n f g = none z a d n (eqb→eq z a (subst T (sym (and-first (eqb z a) _ f)) tt))
+in-range true z a d n f g = none z a d n (eqb→eq z a (subst T (sym (both-left (eqb z a) _ f)) tt))
   where
     none : (z a d : ℕ) → z ≡ 0 → z ≡ a → a ≤ d
     none z a d n e = omega arith
@@ -112,25 +86,25 @@ positive true z a e = absurd (true≢false (sym e))
 nothing : (e : _) → 0 * up (pos 0) * down e ≡ 0
 nothing e = zero-mul (down e)
 
-small : (s : Bool) (m : ℕ) (e : _) → le nought (fin s m e) ≡ true → le (fin s m e) unit ≡ true → m * up e ≤ down e
+small : (s : Bool) (m : ℕ) (e : _) → le zero32 (fin s m e) ≡ true → le (fin s m e) one32 ≡ true → m * up e ≤ down e
 unfolding le lt eq ofBits
 small s m e f g =
     le-trans (le-of-eq (sym (mul-one (m * up e))))
     (le-trans (in-range s (0 * up (pos 0) * down e) (m * up e * 1) (1 * down e) (nothing e) f g) (le-of-eq (one-mul (down e))))
 
-pub length-unit : (x : Float) → le nought x ≡ true → le x unit ≡ true → length (sevenDecimals x) ≤ 10
+pub length-unit : (x : Float) → le zero32 x ≡ true → le x one32 ≡ true → length (sevenDecimals x) ≤ 10
 unfolding sevenDecimals le lt eq ofBits
 length-unit nan f g = absurd (true≢false (sym f))
 length-unit (inf true) f g = absurd (true≢false (sym f))
 length-unit (inf false) f g = absurd (true≢false (sym g))
 length-unit (fin s m e) f g =
-    signed s (closest (m * up e * 10 ^ 7) (down e)) 9 (length-pointed 0 (closest (m * up e * 10 ^ 7) (down e)) (at-most-one (m * up e) (down e) (down-pos e) (small s m e f g)))
+    signed s (closest (m * up e * 10 ^ 7) (down e)) 9 (length-withPoint 0 (closest (m * up e * 10 ^ 7) (down e)) (at-most-one (m * up e) (down e) (down-pos e) (small s m e f g)))
 
-above : (x : Float) → lt nought x ≡ true → le nought x ≡ true
+above : (x : Float) → lt zero32 x ≡ true → le zero32 x ≡ true
 unfolding le
-above x h = ap (λ (b : Bool). b || eq nought x) h
+above x h = ap (λ (b : Bool). b || eq zero32 x) h
 
-pub length-positive-unit : (x : Float) → lt nought x ≡ true → le x unit ≡ true → length (sevenDecimals x) ≤ 9
+pub length-positive-unit : (x : Float) → lt zero32 x ≡ true → le x one32 ≡ true → length (sevenDecimals x) ≤ 9
 unfolding sevenDecimals le lt eq ofBits
 length-positive-unit nan f g = absurd (true≢false (sym f))
 length-positive-unit (inf true) f g = absurd (true≢false (sym f))
@@ -138,4 +112,4 @@ length-positive-unit (inf false) f g = absurd (true≢false (sym g))
 length-positive-unit (fin s m e) f g =
     let q = closest (m * up e * 10 ^ 7) (down e) in
     unsigned s q (positive s (0 * up (pos 0) * down e) (m * up e * 1) f)
-    (length-pointed 0 q (at-most-one (m * up e) (down e) (down-pos e) (small s m e (above (fin s m e) f) g)))
+    (length-withPoint 0 q (at-most-one (m * up e) (down e) (down-pos e) (small s m e (above (fin s m e) f) g)))

@@ -2,16 +2,18 @@
 // Digits come by multiplications, shifts, comparisons and subtractions: nothing is divided but by powers of two.
 
 use buffer::put_bytes;
+use floats::rounding::nearest_shifted;
 ghost use mathlib.Core.Path.{_≡_};
-ghost use mathlib.Core.Bool.{cond, not};
+ghost use mathlib.Core.Bool.{not};
 ghost use mathlib.Core.List.{_++_, _∷_};
 ghost use Prim.Native.Nat.{_+_, _*_, _-_, _/_, _^_, _<_, _≤_};
 ghost use lib.Dec.{eqb, ltb};
 ghost use lib.ListN.{length, replicate};
+ghost use lib.Ieee.{binary32};
 ghost use lib.Ieee.Nearest.{closest};
-ghost use Rattle.buffer.specs.Buffer.{put};
+ghost use Rattle.floats.specs.Fields.{significand};
 ghost use Rattle.decimal.specs.Decimal.{digits, lastDigits};
-ghost use Rattle.buffer.specs.Puts.{Puts};
+ghost use Rattle.buffer.specs.Puts.{PutsText};
 ghost use Rattle.decimal.specs.Seven.{minus, withPoint, sevenDecimals};
 ghost use Rattle.decimal.specs.Parts.{valueOf, Proper, part};
 
@@ -39,7 +41,7 @@ pub struct Decimals {
 // Two digits. n * 103 / 1024 is n / 10 for these n.
 fn put_two(out: &mut [u8], at: usize, n: u64) -> usize
     requires { ⌜ (n < 100) × (at + 2 ≤ length (now out)) ⌝ }
-    ensures { λ r. ⌜ Puts (now (out .entry)) at (lastDigits 2 n) r (now (out .exit)) ⌝ }
+    ensures { λ r. ⌜ PutsText (now (out .entry)) at (lastDigits 2 n) r (now (out .exit)) ⌝ }
 {
     let tens = (n * 103) >> 10;
     out[at] = (48 + tens) as u8;
@@ -56,7 +58,7 @@ fn hundreds(n: u64) -> u64
 }
 
 // n / 10000, as n * 109951163 / 2^40.
-fn myriads(n: u64) -> u64
+fn ten_thousands(n: u64) -> u64
     requires { ⌜ n < 10 ^ 8 ⌝ }
     ensures { λ r. ⌜ r ≡ n / 10 ^ 4 ⌝ }
 {
@@ -66,7 +68,7 @@ fn myriads(n: u64) -> u64
 // Four digits.
 fn put_four(out: &mut [u8], at: usize, n: u64) -> usize
     requires { ⌜ (n < 10 ^ 4) × (at + 4 ≤ length (now out)) ⌝ }
-    ensures { λ r. ⌜ Puts (now (out .entry)) at (lastDigits 4 n) r (now (out .exit)) ⌝ }
+    ensures { λ r. ⌜ PutsText (now (out .entry)) at (lastDigits 4 n) r (now (out .exit)) ⌝ }
 {
     let high = hundreds(n);
     let i = put_two(&mut *out, at, high);
@@ -76,9 +78,9 @@ fn put_four(out: &mut [u8], at: usize, n: u64) -> usize
 // Eight digits.
 fn put_eight(out: &mut [u8], at: usize, n: u64) -> usize
     requires { ⌜ (n < 10 ^ 8) × (at + 8 ≤ length (now out)) ⌝ }
-    ensures { λ r. ⌜ Puts (now (out .entry)) at (lastDigits 8 n) r (now (out .exit)) ⌝ }
+    ensures { λ r. ⌜ PutsText (now (out .entry)) at (lastDigits 8 n) r (now (out .exit)) ⌝ }
 {
-    let high = myriads(n);
+    let high = ten_thousands(n);
     let i = put_four(&mut *out, at, high);
     put_four(&mut *out, i, n - high * 10000)
 }
@@ -86,7 +88,7 @@ fn put_eight(out: &mut [u8], at: usize, n: u64) -> usize
 // n without leading zeros: one digit or two.
 fn put_up_to_two(out: &mut [u8], at: usize, n: u64) -> usize
     requires { ⌜ (n < 100) × (at + 2 ≤ length (now out)) ⌝ }
-    ensures { λ r. ⌜ Puts (now (out .entry)) at (digits n) r (now (out .exit)) ⌝ }
+    ensures { λ r. ⌜ PutsText (now (out .entry)) at (digits n) r (now (out .exit)) ⌝ }
 {
     if n < 10 {
         out[at] = (48 + n) as u8;
@@ -98,7 +100,7 @@ fn put_up_to_two(out: &mut [u8], at: usize, n: u64) -> usize
 // n without leading zeros: up to four digits.
 pub fn put_up_to_four(out: &mut [u8], at: usize, n: u64) -> usize
     requires { ⌜ (n < 10 ^ 4) × (at + 4 ≤ length (now out)) ⌝ }
-    ensures { λ r. ⌜ Puts (now (out .entry)) at (digits n) r (now (out .exit)) ⌝ }
+    ensures { λ r. ⌜ PutsText (now (out .entry)) at (digits n) r (now (out .exit)) ⌝ }
 {
     if n < 100 {
         return put_up_to_two(out, at, n);
@@ -111,12 +113,12 @@ pub fn put_up_to_four(out: &mut [u8], at: usize, n: u64) -> usize
 // n without leading zeros: up to eight digits.
 fn put_up_to_eight(out: &mut [u8], at: usize, n: u64) -> usize
     requires { ⌜ (n < 10 ^ 8) × (at + 8 ≤ length (now out)) ⌝ }
-    ensures { λ r. ⌜ Puts (now (out .entry)) at (digits n) r (now (out .exit)) ⌝ }
+    ensures { λ r. ⌜ PutsText (now (out .entry)) at (digits n) r (now (out .exit)) ⌝ }
 {
     if n < 10000 {
         return put_up_to_four(out, at, n);
     }
-    let high = myriads(n);
+    let high = ten_thousands(n);
     let i = put_up_to_four(&mut *out, at, high);
     put_four(&mut *out, i, n - high * 10000)
 }
@@ -124,7 +126,7 @@ fn put_up_to_eight(out: &mut [u8], at: usize, n: u64) -> usize
 // The point and seven decimals: eight digits, of which the first gives its place to the point.
 fn put_decimals(out: &mut [u8], at: usize, n: u64) -> usize
     requires { ⌜ (n < 10 ^ 7) × (at + 8 ≤ length (now out)) ⌝ }
-    ensures { λ r. ⌜ Puts (now (out .entry)) at (46 ∷ lastDigits 7 n) r (now (out .exit)) ⌝ }
+    ensures { λ r. ⌜ PutsText (now (out .entry)) at (46 ∷ lastDigits 7 n) r (now (out .exit)) ⌝ }
 {
     let end = put_eight(&mut *out, at, n);
     out[at] = 46;
@@ -132,46 +134,29 @@ fn put_decimals(out: &mut [u8], at: usize, n: u64) -> usize
 }
 
 // A whole part and seven decimals.
-fn put_pointed(out: &mut [u8], at: usize, whole: u64, rest: u64) -> usize
+fn put_with_point(out: &mut [u8], at: usize, whole: u64, rest: u64) -> usize
     requires { ⌜ ((whole < 10 ^ 8) × (rest < 10 ^ 7)) × (at + 16 ≤ length (now out)) ⌝ }
-    ensures { λ r. ⌜ Puts (now (out .entry)) at (withPoint (whole * 10 ^ 7 + rest)) r (now (out .exit)) ⌝ }
+    ensures { λ r. ⌜ PutsText (now (out .entry)) at (withPoint (whole * 10 ^ 7 + rest)) r (now (out .exit)) ⌝ }
 {
     let i = put_up_to_eight(&mut *out, at, whole);
     put_decimals(&mut *out, i, rest)
 }
 
-// n / 2^d to the nearest whole number, a tie to the even one.
-fn nearest_shifted(n: u64, d: u64) -> u64
-    requires { ⌜ (n < 2 ^ 48) × (d ≤ 48) ⌝ }
-    ensures { λ r. ⌜ r ≡ closest n (2 ^ d) ⌝ }
-{
-    let unit = 1u64 << d;
-    let whole = n >> d;
-    let twice = (n - whole * unit) * 2;
-    if twice < unit {
-        whole
-    } else if unit < twice {
-        whole + 1
-    } else {
-        whole + whole % 2
-    }
-}
-
 // m / 2^d to seven decimals, for a value with a fraction. From d = 49 on it is less than half of the last decimal.
 fn put_fraction(out: &mut [u8], at: usize, m: u64, d: u64) -> usize
     requires { ⌜ (m < 2 ^ 24) × (at + 16 ≤ length (now out)) ⌝ }
-    ensures { λ r. ⌜ Puts (now (out .entry)) at (withPoint (closest (m * 10 ^ 7) (2 ^ d))) r (now (out .exit)) ⌝ }
+    ensures { λ r. ⌜ PutsText (now (out .entry)) at (withPoint (closest (m * 10 ^ 7) (2 ^ d))) r (now (out .exit)) ⌝ }
 {
     if 48 < d {
-        return put_pointed(out, at, 0, 0);
+        return put_with_point(out, at, 0, 0);
     }
     let q = nearest_shifted(m * 10000000, d);
     let whole = m >> d;
     let rest = q - whole * 10000000;
     if rest == 10000000 {
-        return put_pointed(out, at, whole + 1, 0);
+        return put_with_point(out, at, whole + 1, 0);
     }
-    put_pointed(out, at, whole, rest)
+    put_with_point(out, at, whole, rest)
 }
 
 // 2 * part + carry, by its last eight digits and the one before.
@@ -234,7 +219,7 @@ fn shifted(m: u64, k: u64) -> Parts
 // A part of a number whose digits begin at `start`. As long as none is written, leading zeros are left out.
 fn put_part(out: &mut [u8], start: usize, at: usize, n: u64) -> usize
     requires { ⌜ (n < 10 ^ 8) × (at + 8 ≤ length (now out)) ⌝ }
-    ensures { λ r. ⌜ Puts (now (out .entry)) at (part (ltb start at) n) r (now (out .exit)) ⌝ }
+    ensures { λ r. ⌜ PutsText (now (out .entry)) at (part (ltb start at) n) r (now (out .exit)) ⌝ }
 {
     if start < at {
         return put_eight(out, at, n);
@@ -248,7 +233,7 @@ fn put_part(out: &mut [u8], start: usize, at: usize, n: u64) -> usize
 // The digits of a number above zero.
 fn put_parts(out: &mut [u8], at: usize, b: Parts) -> usize
     requires { ⌜ (Proper b × (0 < valueOf b)) × ((b .p4 < 10 ^ 7) × (at + 39 ≤ length (now out))) ⌝ }
-    ensures { λ r. ⌜ Puts (now (out .entry)) at (digits (valueOf b)) r (now (out .exit)) ⌝ }
+    ensures { λ r. ⌜ PutsText (now (out .entry)) at (digits (valueOf b)) r (now (out .exit)) ⌝ }
 {
     let i4 = put_part(&mut *out, at, at, b.p4);
     let i3 = put_part(&mut *out, at, i4, b.p3);
@@ -260,7 +245,7 @@ fn put_parts(out: &mut [u8], at: usize, b: Parts) -> usize
 // m * 2^k to seven decimals, for a whole number from 2^23 on.
 fn put_whole(out: &mut [u8], at: usize, m: u64, k: u64) -> usize
     requires { ⌜ ((0 < m) × (m < 2 ^ 24)) × ((k ≤ 104) × (at + 47 ≤ length (now out))) ⌝ }
-    ensures { λ r. ⌜ Puts (now (out .entry)) at (withPoint (m * 2 ^ k * 10 ^ 7)) r (now (out .exit)) ⌝ }
+    ensures { λ r. ⌜ PutsText (now (out .entry)) at (withPoint (m * 2 ^ k * 10 ^ 7)) r (now (out .exit)) ⌝ }
 {
     let i = put_parts(&mut *out, at, shifted(m, k));
     put_decimals(&mut *out, i, 0)
@@ -269,7 +254,7 @@ fn put_whole(out: &mut [u8], at: usize, m: u64, k: u64) -> usize
 // A finite value without its sign, by the fields of its binary32 pattern: (2^23 + fraction) * 2^(field - 150), or fraction * 2^-149 for the field 0.
 fn put_magnitude(out: &mut [u8], at: usize, field: u64, fraction: u64) -> usize
     requires { ⌜ ((field < 255) × (fraction < 2 ^ 23)) × (at + 47 ≤ length (now out)) ⌝ }
-    ensures { λ r. ⌜ Puts (now (out .entry)) at (withPoint (closest (cond (eqb field 0) fraction (2 ^ 23 + fraction) * 2 ^ (field - 1) * 10 ^ 7) (2 ^ 149))) r (now (out .exit)) ⌝ }
+    ensures { λ r. ⌜ PutsText (now (out .entry)) at (withPoint (closest (significand binary32 field fraction * 2 ^ (field - 1) * 10 ^ 7) (2 ^ 149))) r (now (out .exit)) ⌝ }
 {
     if field == 0 {
         return put_fraction(out, at, fraction, 149);
@@ -283,7 +268,7 @@ fn put_magnitude(out: &mut [u8], at: usize, field: u64, fraction: u64) -> usize
 // The minus of a negative number.
 fn put_minus(out: &mut [u8], at: usize, sign: u64) -> usize
     requires { ⌜ at + 1 ≤ length (now out) ⌝ }
-    ensures { λ r. ⌜ Puts (now (out .entry)) at (minus (not (eqb sign 0))) r (now (out .exit)) ⌝ }
+    ensures { λ r. ⌜ PutsText (now (out .entry)) at (minus (not (eqb sign 0))) r (now (out .exit)) ⌝ }
 {
     if sign == 0 {
         return at;
@@ -295,7 +280,7 @@ fn put_minus(out: &mut [u8], at: usize, sign: u64) -> usize
 // x to seven decimals from `at` on; answers the place after it.
 pub fn put_seven_decimals(out: &mut [u8], at: usize, x: f32) -> usize
     requires { ⌜ at + 48 ≤ length (now out) ⌝ }
-    ensures { λ r. ⌜ (r ≡ at + length (sevenDecimals x)) × (now (out .exit) ≡ put (now (out .entry)) at (sevenDecimals x)) ⌝ }
+    ensures { λ r. ⌜ PutsText (now (out .entry)) at (sevenDecimals x) r (now (out .exit)) ⌝ }
 {
     if x != x {
         return put_bytes(out, at, b"NaN");

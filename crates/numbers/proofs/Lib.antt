@@ -2,5 +2,5 @@ mod Choice
 mod FixedNumber
 mod NarrowPattern
 mod Narrowing
-mod Patterns
+mod Rest
 mod TwosComplement

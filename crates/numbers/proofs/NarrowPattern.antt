@@ -10,7 +10,7 @@ use lib.Ieee.Bits.{toBits-lt}
 use lib.Ieee.Compare.{differs-from-itself}
 use Rattle.numbers.specs.Narrow.{narrow}
 use Rattle.numbers.proofs.Narrowing.{Narrows, inf-bits}
-use Rattle.numbers.proofs.Patterns.{fields-of, at-top, no-nan, zero-by-zero}
+use Rattle.floats.specs.FieldsLaws.{fields-of, at-top, no-nan, zero-by-zero}
 
 pub nan-narrows : (x : Float) → ne x x ≡ true → div binary32 (ofBits binary32 0) (ofBits binary32 0) ≡ narrow x
 unfolding narrow

@@ -1,45 +1,25 @@
 -- What the narrowing of a binary64 value to binary32 rests on: the value that `round` makes of the fields, and its pattern.
 -- Assumes nothing.
-use mathlib.Core.Path.{_≡_, refl, sym, ap, _∙_, subst}
+use mathlib.Core.Path.{_≡_, refl, sym, ap, ap₂, _∙_, subst}
 use mathlib.Core.Logic.{_⊎_, inl, inr}
-use mathlib.Core.Bool.{Bool, true, false, not, cond}
-use Prim.Native.Nat.{ℕ, zero, suc, _+_, _-_, _*_, _/_, _%_, _^_, _≤_, _<_, compare, Ordering, Ordering·lt, Ordering·eq, Ordering·gt}
-use native.Mathlib.Nat.{le-trans, le-of-eq, le-of-lt, lt-irrefl, lt-of-lt-of-le, lt-of-le-of-lt, lt-of-not-le, not-le-of-lt, le-antisymm, mul-assoc, mul-comm, mul-left-comm, mul-one, mul-pos, mul-le-mul-right, mul-le-mul-left, mul-lt-mul-of-pos-right, mul-div-cancel, div-eq-of-lt, mod-eq-of-lt, div-lt-iff-lt-mul, le-div-iff-mul-le, eq-or-lt-of-le}
+use mathlib.Core.Bool.{Bool, true, false, cond}
+use Prim.Native.Nat.{ℕ, suc, _+_, _-_, _*_, _/_, _^_, _≤_, _<_}
+use native.Mathlib.Nat.{le-trans, le-of-eq, lt-of-lt-of-le, lt-of-le-of-lt, lt-of-not-le, not-le-of-lt, le-antisymm, mul-assoc, mul-comm, mul-left-comm, mul-one, mul-pos, mul-le-mul-right, mul-le-mul-left, mul-lt-mul-of-pos-right, mul-div-cancel, div-lt-iff-lt-mul, le-div-iff-mul-le, eq-or-lt-of-le}
 use native.Mathlib.Omega.{arith}
-use lib.Dec.{T, ltb, eqb, isLe, isEq, leb→le, nleb→lt, ltb→lt, eqb→eq, eqb-refl}
-use native.Mathlib.Numerals.{add-one}
-use lib.Pow.{pow-add, pow-pos, pow-mono, shl-lt, shl-shr, shr-lt}
-use lib.Ieee.{Float, nan, inf, fin, binary32, binary64, up, down, size, nearest, odd, units, round, fits, ofBits, ofFields, toBits}
+use lib.Dec.{T, ltb, eqb, leb→le, ltb→lt}
+use lib.Pow.{pow-add, pow-pos, pow-mono, shl-lt, shl-shr}
+use lib.Ieee.{Float, nan, inf, fin, binary32, binary64, up, down, size, odd, units, round, fits, ofBits, ofFields, toBits}
 use lib.Ieee.Digits.{size-lt, size-le}
-use lib.Ieee.Fits.{down-pos, odd-fits, inf-fits, cond-fits, round-is, nearest-le}
+use lib.Ieee.Fits.{down-pos, odd-fits, inf-fits, cond-fits, round-is}
 use lib.Ieee.Exact.{HasValue, units-val}
 use lib.Ieee.Bits.{ofBits-toBits}
-use lib.Ieee.Nearest.{closest, closest-same, nearest-ge}
+use lib.Ieee.Nearest.{closest, closest-same}
 use lib.Ieee.Scale.{round-same}
-use borrow.Author.Tests.{le-ltb}
+use borrow.Author.Tests.{le-ltb, ne-eqb}
 use Rattle.numbers.specs.Narrow.{narrow}
-use Rattle.numbers.proofs.Patterns.{low-value, field-value}
-
--- ---- what `compare` gives
-
-module _ (a b : ℕ) where
-  cmp : (o : Ordering) → (T (isLe o) → a ≤ b) → (T (not (isLe o)) → b < a) → (T (isEq o) → a ≡ b) → (a ≡ b → T (isEq o))
-      → (a < b → o ≡ Ordering·lt) × (b < a → o ≡ Ordering·gt) × (a ≡ b → o ≡ Ordering·eq)
-  cmp Ordering·lt h k e n = ((λ x. refl), (λ x. absurd (lt-irrefl a (lt-of-le-of-lt (h tt) x))), (λ x. absurd (n x)))
-  cmp Ordering·eq h k e n = ((λ x. absurd (lt-irrefl a (subst (λ (y : ℕ). a < y) (sym (e tt)) x))), (λ x. absurd (lt-irrefl b (subst (λ (y : ℕ). b < y) (e tt) x))), (λ x. refl))
-  cmp Ordering·gt h k e n = ((λ x. absurd (lt-irrefl a (lt-of-lt-of-le x (le-of-lt (k tt))))), (λ x. refl), (λ x. absurd (n x)))
-
-  cmps : (a < b → compare a b ≡ Ordering·lt) × (b < a → compare a b ≡ Ordering·gt) × (a ≡ b → compare a b ≡ Ordering·eq)
-  cmps = cmp (compare a b) (leb→le a b) (nleb→lt a b) (eqb→eq a b) (λ (e : a ≡ b). subst (λ (x : ℕ). T (eqb a x)) e (eqb-refl a))
-
-  pub cmp-lt : a < b → compare a b ≡ Ordering·lt
-  cmp-lt h = cmps .0 h
-
-  pub cmp-gt : b < a → compare a b ≡ Ordering·gt
-  cmp-gt h = cmps .1 h
-
-  pub cmp-eq : a ≡ b → compare a b ≡ Ordering·eq
-  cmp-eq h = cmps .2 h
+use Rattle.floats.specs.Fields.{significand}
+use Rattle.floats.specs.FieldsLaws.{field-value}
+use Rattle.floats.specs.RoundingLaws.{closest-zero, closest-le, closest-ge}
 
 -- ---- a value's narrowing, by its fraction
 
@@ -138,13 +118,6 @@ inf-bits false = refl
 
 -- ---- where the largest exponent ends
 
-least : (q k : ℕ) → 0x7f80_0000 ≤ k * 8388608 + q → q ≤ 16777216 → (k ≡ 0) ⊎ (8388608 ≤ q) → 8388608 ≤ q
-least q k h le (inl z) = absurd (no q k h le z)
-  where
-    no : (q k : ℕ) → 0x7f80_0000 ≤ k * 8388608 + q → q ≤ 16777216 → k ≡ 0 → ⊥
-    no q k h le z = omega arith
-least q k h le (inr g) = g
-
 big : (q k : ℕ) → 0x7f80_0000 ≤ k * 8388608 + q → q ≤ 16777216 → 8388608 ≤ q → 2 ^ 277 ≤ q * 2 ^ k
 big q k h le g = go (eq-or-lt-of-le (omega arith))
   where
@@ -235,28 +208,33 @@ subnormal s q k hi h =
 
 -- ---- the bounds of the rounded quotient
 
-closest-zero : (q d : ℕ) → q * 2 < 2 ^ d → closest q (2 ^ d) ≡ 0
-closest-zero q d h =
-    let l : q < 2 ^ d = lt-of-le-of-lt (twice q) h in
-    ap (λ (w : ℕ). nearest w (compare (q % 2 ^ d * 2) (2 ^ d))) (div-eq-of-lt l)
-    ∙ ap (λ (r : ℕ). nearest 0 (compare (r * 2) (2 ^ d))) (mod-eq-of-lt l)
-    ∙ ap (nearest 0) (cmp-lt (q * 2) (2 ^ d) h)
-  where
-    twice : (q : ℕ) → q ≤ q * 2
-    twice q = omega arith
+power-le : (q d b : ℕ) → q < 2 ^ (b + d) → closest q (2 ^ d) ≤ 2 ^ b
+power-le q d b h = closest-le q (2 ^ d) (2 ^ b) (pow-pos d) (lt-of-lt-of-le h (le-of-eq (pow-add 2 b d)))
 
-pub closest-le : (q d b : ℕ) → q < 2 ^ (b + d) → closest q (2 ^ d) ≤ 2 ^ b
-closest-le q d b h = le-trans (nearest-le (q / 2 ^ d) (compare (q % 2 ^ d * 2) (2 ^ d))) (shr-lt b d h)
-
-closest-ge : (q d b : ℕ) → 2 ^ (b + d) ≤ q → 2 ^ b ≤ closest q (2 ^ d)
-closest-ge q d b h =
-    le-trans (le-div-iff-mul-le (pow-pos d) .1 (le-trans (le-of-eq (sym (pow-add 2 b d))) h))
-    (nearest-ge (q / 2 ^ d) (compare (q % 2 ^ d * 2) (2 ^ d)))
+power-ge : (q d b : ℕ) → 2 ^ (b + d) ≤ q → 2 ^ b ≤ closest q (2 ^ d)
+power-ge q d b h = closest-ge q (2 ^ d) (2 ^ b) (pow-pos d) (le-trans (le-of-eq (sym (pow-add 2 b d))) h)
 
 -- ---- the fields of a finite binary64 value
 
-lead : (t : ℕ) → t < 2 ^ 52 → 2 ^ 52 + t < 2 ^ 53
-lead t h = omega arith
+module _ (field t : ℕ) (h : field < 2047) (g : t < 2 ^ 52) where
+  abbrev q : ℕ
+  q = significand binary64 field t
+
+  significand-lt : q < 2 ^ 53
+  significand-lt = go (eqb field 0)
+    where
+      go : (z : Bool) → cond z t (2 ^ 52 + t) < 2 ^ 53
+      go true = omega arith
+      go false = omega arith
+
+  leading : 0 < field → q ≡ 2 ^ 52 + t
+  leading p = ap (λ (z : Bool). cond z t (2 ^ 52 + t)) (ne-eqb field 0 (ne field p))
+    where
+      ne : (f : ℕ) → 0 < f → f ≡ 0 → ⊥
+      ne f p e = omega arith
+
+  narrows : (s : Bool) → round binary32 s (q * 2 ^ (field - 1)) (2 ^ 1074) ≡ narrow (ofFields binary64 s field t)
+  narrows s = sym (of-value (ofFields binary64 s field t) s (q * 2 ^ (field - 1)) (2 ^ 1074) (pow-pos 1074) (field-value binary64 s field t h))
 
 -- ---- the three answers of the code
 
@@ -268,78 +246,62 @@ zero-bits : (s : Bool) → cond s (2 ^ 31) 0 + 0 ≡ cond s (2 ^ 31) 0 + 0 * 2 ^
 zero-bits true = refl
 zero-bits false = refl
 
-tiny-is : (s : Bool) (v : Float) (q k : ℕ) → q < 2 ^ 53 → k < 871 → HasValue v s (q * 2 ^ k) (2 ^ 1074) → ofBits binary32 (cond s (2 ^ 31) 0 + 0) ≡ narrow v
-tiny-is s v q k hi h value =
+pub tiny : (field t : ℕ) → field < 872 → t < 2 ^ 52 → Narrows field t 0
+tiny field t h g s =
+    let k = field - 1 in
+    let hi : q field t (finite field h) g < 2 ^ 53 = significand-lt field t (finite field h) g in
     ap (ofBits binary32) (zero-bits s)
     ∙ units-bits s 0 0 (omega arith) (inl refl) (fine 0 0 (omega arith) (omega arith) (inl refl))
-    ∙ ap (λ (x : ℕ). units binary32 s x 0) (sym (closest-zero q (925 - k) (lt-of-lt-of-le (shl-lt 53 1 hi) (pow-mono (room k h)))))
-    ∙ sym (subnormal s q k hi (under k h))
-    ∙ sym (of-value v s (q * 2 ^ k) (2 ^ 1074) (pow-pos 1074) value)
+    ∙ ap (λ (x : ℕ). units binary32 s x 0) (sym (closest-zero (q field t (finite field h) g) (2 ^ (925 - k)) (lt-of-lt-of-le (shl-lt 53 1 hi) (pow-mono (room field h)))))
+    ∙ sym (subnormal s (q field t (finite field h) g) k hi (under field h))
+    ∙ narrows field t (finite field h) g s
   where
-    room : (k : ℕ) → k < 871 → 54 ≤ 925 - k
-    room k h = omega arith
+    finite : (f : ℕ) → f < 872 → f < 2047
+    finite f h = omega arith
 
-    under : (k : ℕ) → k < 871 → k < 896
-    under k h = omega arith
+    room : (f : ℕ) → f < 872 → 54 ≤ 925 - (f - 1)
+    room f h = omega arith
 
-pub tiny : (field t : ℕ) → field < 872 → t < 2 ^ 52 → Narrows field t 0
-tiny zero t h g s = tiny-is s (ofFields binary64 s 0 t) t 0 (more t g) (omega arith) (low-value binary64 s t)
-  where
-    more : (t : ℕ) → t < 2 ^ 52 → t < 2 ^ 53
-    more t g = omega arith
-tiny (suc x) t h g s = tiny-is s (ofFields binary64 s (suc x) t) (2 ^ 52 + t) x (lead t g) (less x h) (field-value binary64 s x t (under x h))
-  where
-    less : (x : ℕ) → suc x < 872 → x < 871
-    less x h = omega arith
-
-    under : (x : ℕ) → suc x < 872 → suc x < 2047
-    under x h = omega arith
-
--- a field above 0 is the successor of the number before it
-at-suc : (P : ℕ → Type 0) (field x : ℕ) → field ≡ suc x → P (suc x) → P field
-at-suc P field x e p = subst P (sym e) p
-
-no-k : (c q : ℕ) → c + q ≡ c + 0 * 8388608 + q
-no-k c q = omega arith
-
-with-k : (c j q : ℕ) → c + (j * 8388608 + q) ≡ c + j * 8388608 + q
-with-k c j q = omega arith
+    under : (f : ℕ) → f < 872 → f - 1 < 896
+    under f h = omega arith
 
 pub low-le : (field t : ℕ) → field < 897 → t < 2 ^ 52 → closest (2 ^ 52 + t) (2 ^ (926 - field)) ≤ 2 ^ 24
-low-le field t h g = closest-le (2 ^ 52 + t) (926 - field) 24 (lt-of-lt-of-le (lead t g) (pow-mono (room field h)))
+low-le field t h g = power-le (2 ^ 52 + t) (926 - field) 24 (lt-of-lt-of-le {m = 2 ^ 53} (omega arith) (pow-mono (room field h)))
   where
     room : (f : ℕ) → f < 897 → 53 ≤ 24 + (926 - f)
     room f h = omega arith
 
 pub small : (field t : ℕ) → 872 ≤ field → field < 897 → t < 2 ^ 52 → Narrows field t (closest (2 ^ 52 + t) (2 ^ (926 - field)))
-small zero t lo h g s = absurd (no lo)
-  where
-    no : 872 ≤ 0 → ⊥
-    no h = omega arith
-small (suc x) t lo h g s =
-    let q = 2 ^ 52 + t in
-    let r = closest q (2 ^ (926 - suc x)) in
-    let le : r ≤ 2 ^ 24 = low-le (suc x) t h g in
+small field t lo h g s =
+    let r = closest (2 ^ 52 + t) (2 ^ (926 - field)) in
+    let le : r ≤ 2 ^ 24 = low-le field t h g in
     ap (ofBits binary32) (no-k (cond s (2 ^ 31) 0) r)
     ∙ units-bits s r 0 le (inl refl) (fine r 0 (under r le) le (inl refl))
-    ∙ ap (λ (d : ℕ). units binary32 s (closest q (2 ^ d)) 0) (pred x)
-    ∙ sym (subnormal s q x (lead t g) (less x h))
-    ∙ sym (of-value (ofFields binary64 s (suc x) t) s (q * 2 ^ x) (2 ^ 1074) (pow-pos 1074) (field-value binary64 s x t (finite x h)))
+    ∙ ap (λ (d : ℕ). units binary32 s (closest (2 ^ 52 + t) (2 ^ d)) 0) (before field lo h)
+    ∙ sym (subnormal s (2 ^ 52 + t) (field - 1) (omega arith) (less field h))
+    ∙ ap (λ (q : ℕ). round binary32 s (q * 2 ^ (field - 1)) (2 ^ 1074)) (sym (leading field t (finite field h) g (some field lo)))
+    ∙ narrows field t (finite field h) g s
   where
+    no-k : (c q : ℕ) → c + q ≡ c + 0 * 8388608 + q
+    no-k c q = omega arith
+
     under : (r : ℕ) → r ≤ 2 ^ 24 → 0 * 8388608 + r < 0x7f80_0000
     under r h = omega arith
 
-    pred : (x : ℕ) → 926 - suc x ≡ 925 - x
-    pred x = omega arith
+    before : (f : ℕ) → 872 ≤ f → f < 897 → 926 - f ≡ 925 - (f - 1)
+    before f l h = omega arith
 
-    less : (x : ℕ) → suc x < 897 → x < 896
-    less x h = omega arith
+    less : (f : ℕ) → f < 897 → f - 1 < 896
+    less f h = omega arith
 
-    finite : (x : ℕ) → suc x < 897 → suc x < 2047
-    finite x h = omega arith
+    finite : (f : ℕ) → f < 897 → f < 2047
+    finite f h = omega arith
+
+    some : (f : ℕ) → 872 ≤ f → 0 < f
+    some f h = omega arith
 
 pub top-le : (t : ℕ) → t < 2 ^ 52 → closest (2 ^ 52 + t) (2 ^ 29) ≤ 2 ^ 24
-top-le t g = closest-le (2 ^ 52 + t) 29 24 (lead t g)
+top-le t g = power-le (2 ^ 52 + t) 29 24 (omega arith)
 
 module _ (field t : ℕ) (lo : 897 ≤ field) (h : field < 2047) (g : t < 2 ^ 52) where
   abbrev j : ℕ
@@ -349,36 +311,28 @@ module _ (field t : ℕ) (lo : 897 ≤ field) (h : field < 2047) (g : t < 2 ^ 52
   r = closest (2 ^ 52 + t) (2 ^ 29)
 
   ge : 2 ^ 23 ≤ r
-  ge = closest-ge (2 ^ 52 + t) 29 23 (omega arith)
+  ge = power-ge (2 ^ 52 + t) 29 23 (omega arith)
 
   is : (s : Bool) → units binary32 s r j ≡ narrow (ofFields binary64 s field t)
   is s =
-      at-suc (λ (f : ℕ). units binary32 s r j ≡ narrow (ofFields binary64 s f t)) field (896 + j) (whole field lo)
-      (sym (normal s (2 ^ 52 + t) j (omega arith) (lead t g))
-      ∙ sym (of-value (ofFields binary64 s (suc (896 + j)) t) s ((2 ^ 52 + t) * 2 ^ (896 + j)) (2 ^ 1074) (pow-pos 1074) (field-value binary64 s (896 + j) t (finite field lo h))))
+      sym (normal s (2 ^ 52 + t) j (omega arith) (omega arith))
+      ∙ ap₂ (λ (q k : ℕ). round binary32 s (q * 2 ^ k) (2 ^ 1074)) (sym (leading field t h g (some field lo))) (whole field lo)
+      ∙ narrows field t h g s
     where
-      whole : (f : ℕ) → 897 ≤ f → f ≡ suc (896 + (f - 897))
-      whole f h = omega arith
+      some : (f : ℕ) → 897 ≤ f → 0 < f
+      some f h = omega arith
 
-      finite : (f : ℕ) → 897 ≤ f → f < 2047 → suc (896 + (f - 897)) < 2047
-      finite f l h = omega arith
+      whole : (f : ℕ) → 897 ≤ f → 896 + (f - 897) ≡ f - 1
+      whole f h = omega arith
 
   pub large : j * 2 ^ 23 + r < 0x7f80_0000 → Narrows field t (j * 2 ^ 23 + r)
   large l s =
       ap (ofBits binary32) (with-k (cond s (2 ^ 31) 0) j r)
       ∙ units-bits s r j (top-le t g) (inr ge) (fine r j l (top-le t g) (inr ge))
       ∙ is s
+    where
+      with-k : (c j q : ℕ) → c + (j * 8388608 + q) ≡ c + j * 8388608 + q
+      with-k c j q = omega arith
 
   pub over : 0x7f80_0000 ≤ j * 2 ^ 23 + r → Narrows field t 0x7f80_0000
   over l s = inf-bits s ∙ sym (units-inf s r j (big r j l (top-le t g) ge)) ∙ is s
-
--- ---- the quotient by a shift
-
-pub at-lt : (q u : ℕ) → q % u * 2 < u → q / u ≡ closest q u
-at-lt q u h = sym (ap (nearest (q / u)) (cmp-lt (q % u * 2) u h))
-
-pub at-gt : (q u : ℕ) → u < q % u * 2 → q / u + 1 ≡ closest q u
-at-gt q u h = add-one (q / u) ∙ sym (ap (nearest (q / u)) (cmp-gt (q % u * 2) u h))
-
-pub at-eq : (q u : ℕ) → u ≤ q % u * 2 → q % u * 2 ≤ u → q / u + q / u % 2 ≡ closest q u
-at-eq q u h g = sym (ap (nearest (q / u)) (cmp-eq (q % u * 2) u (le-antisymm g h)))

@@ -1,47 +1,62 @@
--- The range of an s15Fixed16Number. Assumes nothing.
+-- The range of fixed numbers, and what a float that has one tells. Assumes nothing.
 use Prim.Native.Nat.{ℕ, zero, suc, _*_, _≤_, _<_}
-use mathlib.Core.Path.{_≡_, refl}
+use mathlib.Core.Path.{_≡_, refl, ap, _∙_}
 use mathlib.Core.Bool.{Bool, true, false, cond}
-use native.Mathlib.Nat.{div-lt-iff-lt-mul, mul-pos}
-use native.Mathlib.Omega.{arith}
-use lib.Dec.{T, leb, leb→le, lit<}
-use lib.IntN.{ℤ, pos, negsuc, natAbs}
+use mathlib.Core.List.{List, [], _∷_, map}
+use lib.Dec.{T, leb, leb→le, lit≤}
+use lib.IntN.{ℤ, natAbs}
 use lib.Ieee.{Float, nan, inf, fin, up, down}
 use lib.Ieee.Fits.{down-pos}
-use mir.Syntax.{w32}
-use mir.Val.{SFits}
-use Rattle.numbers.specs.Fixed.{halvesUp, signed, limit, ofFraction, s15Fixed16}
+use Rattle.buffer.specs.Checked.{is, refused}
+use Rattle.floats.specs.Rounding.{halvesUp}
+use Rattle.floats.specs.RoundingLaws.{halvesUp-le}
+use Rattle.numbers.specs.Fixed.{signed, largest, ofFraction, s15Fixed16, fixedOr, numberOf, fixedNumber}
+use Rattle.numbers.specs.declared.fixed.S15Fixed16.{S15Fixed16}
 use Rattle.numbers.specs.declared.fixed.S15Fixed16.the-variants.{Number, OutOfRange}
 
-pub halvesUp-within : (num den : ℕ) → 0 < den → num ≤ limit * den → halvesUp num den ≤ limit
-halvesUp-within num den d h =
-    let less : halvesUp num den < 2147483265 = div-lt-iff-lt-mul (mul-pos (lit< tt) d) .1 (omega arith) in
-    omega arith
+-- ---- the range
 
 natAbs-signed : (s : Bool) (n : ℕ) → natAbs (signed s n) ≡ n
 natAbs-signed true zero = refl
 natAbs-signed true (suc n) = refl
 natAbs-signed false n = refl
 
-no-number : (z : ℤ) → OutOfRange ≡ Number z → ⊥
-no-number z e = let n : _≡_ {A = ℕ} 0 1 = cc in omega arith
-
-fraction-within : (s : Bool) (num den : ℕ) (z : ℤ) → 0 < den → ofFraction s num den ≡ Number z → natAbs z ≤ limit
-fraction-within s num den z d e = go (leb (num * 65536) (limit * den)) (leb→le (num * 65536) (limit * den)) e
+fraction-within : (s : Bool) (num den : ℕ) → 0 < den → natAbs (numberOf (ofFraction s num den)) ≤ largest
+fraction-within s num den d = go (leb (num * 65536) (largest * den)) (leb→le (num * 65536) (largest * den))
   where
-    go : (t : Bool) → (T t → num * 65536 ≤ limit * den) → cond t (Number (signed s (halvesUp (num * 65536) den))) OutOfRange ≡ Number z → natAbs z ≤ limit
-    go true p e =
-        let same : signed s (halvesUp (num * 65536) den) ≡ z = cc in
-        rw (← same, natAbs-signed s (halvesUp (num * 65536) den)) (halvesUp-within (num * 65536) den d (p tt))
-    go false p e = absurd (no-number z e)
+    go : (t : Bool) → (T t → num * 65536 ≤ largest * den) → natAbs (numberOf (cond t (Number (signed s (halvesUp (num * 65536) den))) OutOfRange)) ≤ largest
+    go true p = rw (natAbs-signed s (halvesUp (num * 65536) den)) (halvesUp-le (num * 65536) den d largest (p tt))
+    go false p = lit≤ tt
 
-pub number-within : (x : Float) (z : ℤ) → s15Fixed16 x ≡ Number z → natAbs z ≤ limit
+pub fixedNumber-within : (x : Float) → natAbs (fixedNumber x) ≤ largest
 unfolding s15Fixed16
-number-within nan z e = absurd (no-number z e)
-number-within (inf s) z e = absurd (no-number z e)
-number-within (fin s m x) z e = fraction-within s (m * up x) (down x) z (down-pos x) e
+fixedNumber-within nan = lit≤ tt
+fixedNumber-within (inf s) = lit≤ tt
+fixedNumber-within (fin s m e) = fraction-within s (m * up e) (down e) (down-pos e)
 
--- such a number fits 32 bits
-pub within-fits : (z : ℤ) → natAbs z ≤ limit → SFits w32 z
-within-fits (pos n) h = record { sfits = omega arith }
-within-fits (negsuc n) h = record { sfits = omega arith }
+pub number-within : (x : Float) (z : ℤ) → s15Fixed16 x ≡ Number z → natAbs z ≤ largest
+number-within x z e = rw e at (fixedNumber-within x)
+
+-- ---- a float that has a fixed number
+
+pub number-if : (n : ℕ) (x : Float) {z : ℤ} → fixedOr n x ≡ is z → s15Fixed16 x ≡ Number z
+number-if n x {z} e = go (s15Fixed16 x) refl
+  where
+    go : (s : S15Fixed16) → s15Fixed16 x ≡ s → s15Fixed16 x ≡ Number z
+    go (Number y) h = let is-y : fixedOr n x ≡ is y = simp h in h ∙ ap Number (cc)
+    go OutOfRange h = let no : fixedOr n x ≡ refused n = simp h in cc
+
+pub within-if : (n : ℕ) (x : Float) {z : ℤ} → fixedOr n x ≡ is z → natAbs z ≤ largest
+within-if n x {z} e = number-within x z (number-if n x e)
+
+-- the fixed numbers of floats that all have one
+pub fixedNumbers-are : (xs : List Float) (zs : List ℤ) → map s15Fixed16 xs ≡ map Number zs → map fixedNumber xs ≡ zs
+fixedNumbers-are xs zs e = apart xs ∙ ap (map numberOf) e ∙ back zs
+  where
+    apart : (xs : List Float) → map fixedNumber xs ≡ map numberOf (map s15Fixed16 xs)
+    apart [] = refl
+    apart (x ∷ xs) = ap (λ (t : List ℤ). fixedNumber x ∷ t) (apart xs)
+
+    back : (zs : List ℤ) → map numberOf (map Number zs) ≡ zs
+    back [] = refl
+    back (z ∷ zs) = ap (λ (t : List ℤ). z ∷ t) (back zs)

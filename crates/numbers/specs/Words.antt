@@ -1,11 +1,15 @@
 -- Words of bytes, the most significant byte first (ICC.1:2022, clause 4: uInt16Number, uInt32Number), and signed numbers at 32 bits.
 -- Assumes nothing.
-use Prim.Native.Nat.{ℕ, suc, _+_, _*_, _-_, _/_, _%_, _^_}
+use Prim.Native.Nat.{ℕ, suc, _+_, _*_, _-_, _/_, _%_, _^_, _<_}
 use mathlib.Core.Bool.{cond}
 use mathlib.Core.List.{List, [], _∷_}
 use lib.Dec.{ltb}
 use lib.IntN.{ℤ, pos, negsuc, negℤ}
 use lib.ListN.{getD}
+
+-- a byte: a uInt8Number
+abbrev pub Byte : ℕ → Type 0
+Byte b = b < 256
 
 -- a uInt16Number
 unfoldable pub be16 : ℕ → List ℕ

@@ -1,19 +1,20 @@
 -- Words and two's complement read back what was written.
 -- Assumes nothing.
-use Prim.Native.Nat.{ℕ, suc, _+_, _*_, _-_, _/_, _%_, _^_, _<_}
+use Prim.Native.Nat.{ℕ, zero, suc, _+_, _*_, _-_, _/_, _%_, _^_, _≤_, _<_}
 use mathlib.Core.Path.{_≡_, refl, ap, ap₂, _∙_}
 use mathlib.Core.Bool.{cond}
 use mathlib.Core.List.{List, [], _∷_, _++_}
 use native.Mathlib.Omega.{arith}
 use native.Mathlib.Nat.{add-zero, add-assoc}
-use lib.Dec.{ltb}
+use lib.Dec.{ltb, lit<}
 use lib.IntN.{ℤ, pos, negsuc, negℤ}
-use lib.ListN.{length, getD, drop}
-use lib.Seq.{getD-drop, drop-drop}
+use lib.ListN.{length, getD, take, drop, drop-of-length-le}
+use lib.Seq.{getD-drop, getD-take, drop-drop}
 use mir.Syntax.{w32}
 use mir.Val.{SFits, ofZ, toZ}
 use mir.ValLaws.{toZ-ofZ, ofZ-toZ, ofZ-fits, toZ-fits}
-use Rattle.numbers.specs.Words.{be16, be32, word16, word32, twosComplement32, signed32}
+use Rattle.buffer.specs.All.{All, none, more}
+use Rattle.numbers.specs.Words.{Byte, be16, be32, word16, word32, twosComplement32, signed32}
 
 pub length-be16 : (n : ℕ) → length (be16 n) ≡ 2
 unfolding be16
@@ -46,13 +47,29 @@ word16-drop i l = rw (getD-drop i l 0 0, getD-drop i l 1 0, add-zero i)
 pub word32-drop : (i : ℕ) (l : List ℕ) → word32 (drop i l) ≡ word16 (drop i l) * 65536 + word16 (drop (i + 2) l)
 word32-drop i l = word32-halves (drop i l) ∙ rw (drop-drop 2 i l)
 
-pub word32-bytes : (i : ℕ) (l : List ℕ)
-    → word32 (drop i l) ≡ (getD l i 0 * 256 + getD l (i + 1) 0) * 65536 + (getD l (i + 2) 0 * 256 + getD l (i + 3) 0)
-word32-bytes i l = word32-drop i l ∙ rw (word16-drop i l, word16-drop (i + 2) l, add-assoc i 2 1)
+-- past the end
+pub word16-past : (l : List ℕ) (i : ℕ) → length l ≤ i → word16 (drop i l) ≡ 0
+unfolding word16
+word16-past l i h = rw (drop-of-length-le l h)
+
+pub word32-past : (l : List ℕ) (i : ℕ) → length l ≤ i → word32 (drop i l) ≡ 0
+unfolding word32
+word32-past l i h = rw (drop-of-length-le l h)
+
+-- a word within a part of a list
+same-word : (l m : List ℕ) → ((j : ℕ) → j < 4 → getD l j 0 ≡ getD m j 0) → word32 l ≡ word32 m
+unfolding word32
+same-word l m e = rw (e 0 (lit< tt), e 1 (lit< tt), e 2 (lit< tt), e 3 (lit< tt))
+
+pub word32-part : (l : List ℕ) (o s a : ℕ) → a + 4 ≤ s → word32 (drop a (take s (drop o l))) ≡ word32 (drop (o + a) l)
+word32-part l o s a h =
+    same-word (drop a (take s (drop o l))) (drop (o + a) l)
+    (λ j k. getD-drop a (take s (drop o l)) j 0 ∙ getD-take s (drop o l) (a + j) 0 (omega arith) ∙ getD-drop o l (a + j) 0
+    ∙ rw (getD-drop (o + a) l j 0, add-assoc o a j))
 
 -- ---- a word written and read
 
-pub word16-be16 : (n : ℕ) (r : List ℕ) → n < 2 ^ 16 → word16 (be16 n ++ r) ≡ n
+word16-be16 : (n : ℕ) (r : List ℕ) → n < 2 ^ 16 → word16 (be16 n ++ r) ≡ n
 unfolding be16 word16
 word16-be16 n r h = omega arith
 
@@ -64,7 +81,7 @@ word32-be32 n r h =
 
 -- ---- a word read and written
 
-pub be16-word16 : (a b : ℕ) → a < 256 → b < 256 → be16 (word16 (a ∷ b ∷ [])) ≡ a ∷ b ∷ []
+be16-word16 : (a b : ℕ) → a < 256 → b < 256 → be16 (word16 (a ∷ b ∷ [])) ≡ a ∷ b ∷ []
 unfolding be16 word16
 be16-word16 a b ha hb =
     let high : (a * 256 + b) / 256 % 256 ≡ a = omega arith in
@@ -77,6 +94,28 @@ be32-word32 a b c d ha hb hc hd =
     let high : (word16 (a ∷ b ∷ []) * 65536 + word16 (c ∷ d ∷ [])) / 65536 ≡ word16 (a ∷ b ∷ []) = omega arith in
     let low : (word16 (a ∷ b ∷ []) * 65536 + word16 (c ∷ d ∷ [])) % 65536 ≡ word16 (c ∷ d ∷ []) = omega arith in
     rw word32-halves (be32-halves _ ∙ ap₂ (λ (x y : ℕ). be16 x ++ be16 y) high low ∙ ap₂ (λ (x y : List ℕ). x ++ y) (be16-word16 a b ha hb) (be16-word16 c d hc hd))
+
+-- every place of a list of bytes holds a byte; past the end it counts 0
+pub byte-at : (l : List ℕ) → All Byte l → (i : ℕ) → Byte (getD l i 0)
+byte-at [] none i = lit< tt
+byte-at (x ∷ l) (more h hs) zero = h
+byte-at (x ∷ l) (more h hs) (suc i) = byte-at l hs i
+
+pub bytes-drop : (n : ℕ) (l : List ℕ) → ((i : ℕ) → Byte (getD l i 0)) → (i : ℕ) → Byte (getD (drop n l) i 0)
+bytes-drop n l h i = rw (getD-drop n l i 0) (h (n + i))
+
+pub word32-lt : (l : List ℕ) → ((i : ℕ) → Byte (getD l i 0)) → word32 l < 2 ^ 32
+unfolding word32
+word32-lt l h = omega (arith, h 0, h 1, h 2, h 3)
+
+-- the word at the front of a list, written again
+pub be32-front : (l : List ℕ) → ((i : ℕ) → Byte (getD l i 0)) → 4 ≤ length l → be32 (word32 l) ≡ take 4 l
+unfolding word32
+be32-front [] h n = absurd (omega arith)
+be32-front (x ∷ []) h n = absurd (omega arith)
+be32-front (x ∷ (y ∷ [])) h n = absurd (omega arith)
+be32-front (x ∷ (y ∷ (z ∷ []))) h n = absurd (omega arith)
+be32-front (x ∷ (y ∷ (z ∷ (w ∷ l)))) h n = be32-word32 x y z w (h 0) (h 1) (h 2) (h 3)
 
 -- ---- two's complement: the library's, at 32 bits
 
@@ -103,3 +142,18 @@ signed32-twosComplement32 z h = signed32-is (twosComplement32 z) (twosComplement
 
 pub twosComplement32-signed32 : (n : ℕ) → n < 2 ^ 32 → twosComplement32 (signed32 n) ≡ n
 twosComplement32-signed32 n h = twosComplement32-is (signed32 n) ∙ ap (ofZ w32) (signed32-is n h) ∙ ofZ-toZ w32 n (record { fits = h })
+
+pub twosComplement32-pos : (n : ℕ) → twosComplement32 (pos n) ≡ n
+unfolding twosComplement32
+twosComplement32-pos n = refl
+
+-- ---- a signed number in four bytes
+
+pub number-written : (z : ℤ) (r : List ℕ) → SFits w32 z → signed32 (word32 (be32 (twosComplement32 z) ++ r)) ≡ z
+number-written z r h = ap signed32 (word32-be32 (twosComplement32 z) r (twosComplement32-lt z h)) ∙ signed32-twosComplement32 z h
+
+pub number-fits : (l : List ℕ) → ((i : ℕ) → Byte (getD l i 0)) → SFits w32 (signed32 (word32 l))
+number-fits l h = signed32-fits (word32 l) (word32-lt l h)
+
+pub number-read : (l : List ℕ) → ((i : ℕ) → Byte (getD l i 0)) → 4 ≤ length l → be32 (twosComplement32 (signed32 (word32 l))) ≡ take 4 l
+number-read l h n = ap be32 (twosComplement32-signed32 (word32 l) (word32-lt l h)) ∙ be32-front l h n

@@ -1,10 +1,15 @@
 // The s15Fixed16Number of an f32, worked out from the bits.
 
+use floats::rounding::halves_up_shifted;
 ghost use mathlib.Core.Path.{_≡_};
-ghost use mathlib.Core.Bool.{cond};
-ghost use lib.Dec.{eqb};
-ghost use Prim.Native.Nat.{_+_, _*_, _-_, _^_, _<_, _≤_};
-ghost use Rattle.numbers.specs.Fixed.{halvesUp, signed, s15Fixed16};
+ghost use Prim.Native.Nat.{_*_, _-_, _^_, _<_, _≤_};
+ghost use lib.Ieee.{binary32};
+ghost use Rattle.floats.specs.Fields.{significand};
+ghost use Rattle.floats.specs.Rounding.{halvesUp};
+ghost use Rattle.numbers.specs.Fixed.{signed, s15Fixed16};
+
+// The largest magnitude of a fixed number, 32767.994140625 in 65536ths.
+pub const LARGEST: i32 = 2147483264;
 
 pub enum S15Fixed16 {
     Number(i32),
@@ -14,7 +19,7 @@ pub enum S15Fixed16 {
 // The digits of a binary32 value with these fields, the leading one, 2^23, put back.
 fn significand(field: u64, digits: u64) -> u64
     requires { ⌜ digits < 2 ^ 23 ⌝ }
-    ensures { λ r. ⌜ r ≡ cond (eqb field 0) digits (2 ^ 23 + digits) ⌝ }
+    ensures { λ r. ⌜ r ≡ significand binary32 field digits ⌝ }
 {
     if field == 0 { digits } else { 8388608 + digits }
 }
@@ -34,13 +39,7 @@ fn scaled(q: u64, k: u64) -> u64
     if 133 <= k {
         return q << (k - 133);
     }
-    let d = 133 - k;
-    if 63 < d {
-        return 0;
-    }
-    let unit = 1u64 << d;
-    let w = q / unit;
-    if q % unit * 2 < unit { w } else { w + 1 }
+    halves_up_shifted(q, 133 - k)
 }
 
 fn with_sign(negative: bool, n: u64) -> i32
@@ -50,8 +49,8 @@ fn with_sign(negative: bool, n: u64) -> i32
     if negative { 0 - (n as i32) } else { n as i32 }
 }
 
-// The fixed number of value, halves away from zero. A value that is not finite or lies outside ±32767.994140625 has none:
-// an exponent field above 141 is that of 32768 and more, and 2147483264 is 32767.994140625 in 65536ths.
+// The fixed number of value, halves away from zero. A value that is not finite or lies outside the range has none: an exponent field
+// above 141 is that of 32768 and more.
 pub fn to_s15_fixed_16(value: f32) -> S15Fixed16
     ensures { λ r. ⌜ r ≡ s15Fixed16 value ⌝ }
 {
@@ -65,7 +64,7 @@ pub fn to_s15_fixed_16(value: f32) -> S15Fixed16
         return S15Fixed16::OutOfRange;
     }
     let n = scaled(significand(field, digits), exponent(field));
-    if 2147483264 < n {
+    if (LARGEST as u64) < n {
         return S15Fixed16::OutOfRange;
     }
     S15Fixed16::Number(with_sign(2147483648 <= b, n))

@@ -1,28 +1,11 @@
 // An f64 rounded to an f32, worked out from the bits: a cast takes only what the narrower format holds.
 
+use floats::rounding::nearest_shifted;
 ghost use mathlib.Core.Path.{_≡_};
 ghost use mathlib.Core.Bool.{Bool, cond};
 ghost use Prim.Native.Nat.{_+_, _^_, _<_, _≤_};
 ghost use lib.Ieee.{binary32, binary64, ofBits, ofFields};
-ghost use lib.Ieee.Nearest.{closest};
 ghost use Rattle.numbers.specs.Narrow.{narrow};
-
-// q / 2^d to the nearest whole number, a tie to the even one.
-fn nearest_shifted(q: u64, d: u64) -> u64
-    requires { ⌜ (q < 2 ^ 53) × (d < 64) ⌝ }
-    ensures { λ r. ⌜ r ≡ closest q (2 ^ d) ⌝ }
-{
-    let u = 1u64 << d;
-    let w = q / u;
-    let twice = q % u * 2;
-    if twice < u {
-        w
-    } else if u < twice {
-        w + 1
-    } else {
-        w + w % 2
-    }
-}
 
 // The binary32 pattern, without its sign, of the finite binary64 value with this exponent field and these 52 digits. The field
 // of 2^e is e + 1023, and in binary32 e + 127: the least binary32 value with a leading digit, 2^-126, has the field 897 here.

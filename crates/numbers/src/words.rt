@@ -1,11 +1,13 @@
 // Big-endian words in a byte slice. The put functions are for callers that know that the word fits; they answer the place after it.
 
+use buffer::byte_at;
 ghost use mathlib.Core.Path.{_≡_};
 ghost use mathlib.Core.Bool.{cond};
 ghost use Prim.Native.Nat.{_+_, _*_, _%_, _≤_};
 ghost use lib.Dec.{leb};
-ghost use lib.ListN.{length, getD, drop};
+ghost use lib.ListN.{length, drop};
 ghost use Rattle.buffer.specs.Buffer.{put};
+ghost use Rattle.buffer.specs.Puts.{Puts};
 ghost use Rattle.numbers.specs.Words.{be16, be32, word16, word32};
 
 // Whether count bytes from place at on lie within length bytes. The sum of the two may not fit a usize.
@@ -41,7 +43,7 @@ fn join_halves(high: u16, low: u16) -> u32
 
 pub fn put_u16_be(out: &mut [u8], at: usize, value: u16) -> usize
     requires { ⌜ at + 2 ≤ length (now out) ⌝ }
-    ensures { λ r. ⌜ (r ≡ at + 2) × (now (out .exit) ≡ put (now (out .entry)) at (be16 value)) ⌝ }
+    ensures { λ r. ⌜ Puts (now (out .entry)) at 2 (be16 value) r (now (out .exit)) ⌝ }
 {
     out[at] = low_byte(value / 256);
     out[at + 1] = low_byte(value);
@@ -50,7 +52,7 @@ pub fn put_u16_be(out: &mut [u8], at: usize, value: u16) -> usize
 
 pub fn put_u32_be(out: &mut [u8], at: usize, value: u32) -> usize
     requires { ⌜ at + 4 ≤ length (now out) ⌝ }
-    ensures { λ r. ⌜ (r ≡ at + 4) × (now (out .exit) ≡ put (now (out .entry)) at (be32 value)) ⌝ }
+    ensures { λ r. ⌜ Puts (now (out .entry)) at 4 (be32 value) r (now (out .exit)) ⌝ }
 {
     let next = put_u16_be(&mut *out, at, (value / 65536) as u16);
     put_u16_be(&mut *out, next, (value % 65536) as u16)
@@ -81,18 +83,6 @@ pub fn write_u32_be(slice: &mut [u8], pos: usize, value: u32) -> bool
     }
 }
 
-// The byte at pos + k, and 0 past the end.
-fn byte_at(slice: &[u8], pos: usize, k: usize) -> u8
-    ensures { λ r. ⌜ r ≡ getD (now (slice .entry)) (pos + k) 0 ⌝ }
-{
-    if pos < slice.len() {
-        if k < slice.len() - pos {
-            return slice[pos + k];
-        }
-    }
-    0
-}
-
 fn get_u16_be(slice: &[u8], at: usize) -> u16
     requires { ⌜ at + 2 ≤ length (now slice) ⌝ }
     ensures { λ r. ⌜ r ≡ word16 (drop at (now (slice .entry))) ⌝ }
@@ -101,22 +91,26 @@ fn get_u16_be(slice: &[u8], at: usize) -> u16
 }
 
 // The word at pos; bytes past the end count 0.
-pub fn read_u16_be(slice: &[u8], pos: usize) -> u16
+fn read_u16_be(slice: &[u8], pos: usize) -> u16
     ensures { λ r. ⌜ r ≡ word16 (drop pos (now (slice .entry))) ⌝ }
 {
-    if has_room(slice.len(), pos, 2) {
-        return get_u16_be(slice, pos);
+    if slice.len() <= pos {
+        return 0;
     }
-    join_bytes(byte_at(slice, pos, 0), byte_at(slice, pos, 1))
+    let rest = &slice[pos..];
+    join_bytes(byte_at(rest, 0), byte_at(rest, 1))
 }
 
+// The same of four bytes; those of a word that lies within the slice are read at once.
 pub fn read_u32_be(slice: &[u8], pos: usize) -> u32
     ensures { λ r. ⌜ r ≡ word32 (drop pos (now (slice .entry))) ⌝ }
 {
     if has_room(slice.len(), pos, 4) {
         return join_halves(get_u16_be(slice, pos), get_u16_be(slice, pos + 2));
     }
-    let high = join_bytes(byte_at(slice, pos, 0), byte_at(slice, pos, 1));
-    let low = join_bytes(byte_at(slice, pos, 2), byte_at(slice, pos, 3));
-    join_halves(high, low)
+    if slice.len() <= pos {
+        return 0;
+    }
+    let rest = &slice[pos..];
+    join_halves(read_u16_be(rest, 0), read_u16_be(rest, 2))
 }

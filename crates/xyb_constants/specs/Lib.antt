@@ -1,4 +1,3 @@
-pub mod Binary32
 pub mod XybConstants
 pub mod XybNumbers
 pub mod XybNumbersLaws

@@ -5,7 +5,7 @@ use mathlib.Core.List.{List, [], _∷_, _++_}
 use lib.IntN.{pos}
 use lib.ListN.{getD}
 use lib.Ieee.{Float, nan, binary32, binary64, ofBits, ofInt, neg}
-use Rattle.xyb_constants.specs.Binary32.{_⊕_, _⊖_, _⊗_, _⊘_}
+use Rattle.floats.specs.Binary32.{_⊕_, _⊖_, _⊗_, _⊘_, zero as zero32, one}
 
 abbrev b32 : ℕ → Float
 b32 n = ofBits binary32 n
@@ -30,15 +30,11 @@ cbrtOpsinAbsorbanceBias = b32 0x3e1fb275
 
 -- 0.015386134, 0.0, 0.27770459
 abbrev pub scaledXybOffset : List Float
-scaledXybOffset = b32 0x3c7c1620 ∷ b32 0x00000000 ∷ b32 0x3e8e2f4c ∷ []
+scaledXybOffset = b32 0x3c7c1620 ∷ zero32 ∷ b32 0x3e8e2f4c ∷ []
 
 -- 22.995788804, 1.183000077, 1.502141333
 abbrev pub scaledXybScale : List Float
 scaledXybScale = b32 0x41b7f760 ∷ b32 0x3f976c8c ∷ b32 0x3fc0462b ∷ []
-
--- 1.0
-abbrev pub one : Float
-one = b32 0x3f800000
 
 abbrev pub reciprocalSum : Float → Float → Float
 reciprocalSum r1 r2 = (r1 ⊗ r2) ⊘ (r1 ⊕ r2)

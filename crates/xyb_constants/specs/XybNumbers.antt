@@ -1,33 +1,22 @@
 -- The numbers that an XYB profile holds, by the float steps of api/color.rs: `create_icc_lut_atob_tag_for_xyb` (A2B0), `create_icc_noop_btoa_tag`
--- (B2A0), and `chad`. Assumes nothing.
+-- (B2A0), and `chad`. Each float has a fixed number (XybNumbersLaws). Assumes nothing.
 use Prim.Native.Nat.{ℕ, _+_, _*_, min}
 use mathlib.Core.Bool.{cond}
-use mathlib.Core.Option.{Option, none, some}
 use mathlib.Core.List.{List, [], _∷_, _++_, map, flatten}
-use lib.IntN.{ℤ, pos}
+use lib.IntN.{ℤ}
 use lib.Ieee.{Float, nan, inf, fin, binary32, binary64, up, down, ofBits, neg, le, add, mul}
-use Rattle.numbers.specs.Fixed.{halvesUp, s15Fixed16}
+use Rattle.numbers.specs.Fixed.{fixedNumber}
 use Rattle.numbers.specs.Narrow.{narrow}
-use Rattle.numbers.specs.declared.fixed.S15Fixed16.{S15Fixed16}
-use Rattle.numbers.specs.declared.fixed.S15Fixed16.the-variants.{Number, OutOfRange}
 use Rattle.color_encoding.specs.Coordinates.{whiteXy}
 use Rattle.color_encoding.specs.declared.JxlWhitePoint.the-variants.{D65}
-use Rattle.colorimetry.specs.Adapt.{createIccChadMatrix}
-use Rattle.xyb_constants.specs.Binary32.{_⊖_, _⊗_, _⊘_}
-use Rattle.xyb_constants.specs.XybConstants.{at, one, cbrtOpsinAbsorbanceBias, negOpsinAbsorbanceBiasRgb, xybOffset, xybScale, unscaledA2bCubeFull, xybIccMatrix}
+use Rattle.buffer.specs.Checked.{Checked, is, refused}
+use Rattle.colorimetry.specs.Adapt.{chadMatrix}
+use Rattle.floats.specs.Binary32.{_⊖_, _⊗_, _⊘_, zero, one}
+use Rattle.floats.specs.Binary64.{zero as zero64}
+use Rattle.floats.specs.Rounding.{halvesUp}
+use Rattle.xyb_constants.specs.XybConstants.{at, cbrtOpsinAbsorbanceBias, negOpsinAbsorbanceBiasRgb, xybOffset, xybScale, unscaledA2bCubeFull, xybIccMatrix}
 
--- the fixed number of an f32; none below is out of range (XybNumbersLaws)
-abbrev pub numberOf : S15Fixed16 → ℤ
-numberOf (Number z) = z
-numberOf OutOfRange = pos 0
-
-abbrev pub fixed : Float → ℤ
-fixed x = numberOf (s15Fixed16 x)
-
--- 0.0, 3.0 and 65535.0
-abbrev pub zero : Float
-zero = ofBits binary32 0x00000000
-
+-- 3.0 and 65535.0
 abbrev pub three : Float
 three = ofBits binary32 0x40400000
 
@@ -58,12 +47,12 @@ abbrev pub mCurveFloats : List Float
 mCurveFloats = mCurve 0 ++ mCurve 1 ++ mCurve 2
 
 unfoldable pub mCurves : List ℤ
-mCurves = map fixed mCurveFloats
+mCurves = map fixedNumber mCurveFloats
 
 -- The intercept of row i of the matrix of A2B0: f64 products of the row's entries and the negated bias, added to 0.0 one by one. The bias widened
 -- to f64 is the same value.
 abbrev pub intercept : ℕ → Float
-intercept i = add binary64 (add binary64 (add binary64 (ofBits binary64 0) (term 0)) (term 1)) (term 2)
+intercept i = add binary64 (add binary64 (add binary64 zero64 (term 0)) (term 1)) (term 2)
   where
     term : ℕ → Float
     term j = mul binary64 (at xybIccMatrix (i * 3 + j)) (at negOpsinAbsorbanceBiasRgb j)
@@ -73,20 +62,20 @@ abbrev pub matrixFloats : List Float
 matrixFloats = map narrow (xybIccMatrix ++ (intercept 0 ∷ intercept 1 ∷ intercept 2 ∷ []))
 
 unfoldable pub matrix : List ℤ
-matrix = map fixed matrixFloats
+matrix = map fixedNumber matrixFloats
 
 -- the gamma 1.0 of the identity curves of A2B0 and B2A0
 unfoldable pub identityGamma : ℤ
-identityGamma = fixed one
+identityGamma = fixedNumber one
 
 -- the rows one after another; none where there is no matrix
-abbrev pub entries : Option (List (List Float)) → List Float
-entries (some m) = flatten m
-entries none = []
+abbrev pub entries : Checked (List (List Float)) → List Float
+entries (is m) = flatten m
+entries (refused n) = []
 
 -- the adaptation to D50 of the white D65
 abbrev pub chadFloats : List Float
-chadFloats = entries (createIccChadMatrix (whiteXy D65))
+chadFloats = entries (chadMatrix (whiteXy D65))
 
 unfoldable pub chad : List ℤ
-chad = map fixed chadFloats
+chad = map fixedNumber chadFloats

@@ -1,6 +1,6 @@
 -- Of eight digits of a number below 10 ^ 7 the first is 0, and the point is written over it.
 -- Assumes nothing.
-use mathlib.Core.Path.{ap, _∙_}
+use mathlib.Core.Path.{refl, ap, _∙_}
 use mathlib.Core.List.{List}
 use native.Mathlib.Omega.{arith}
 use lib.ListN.{set}
@@ -29,6 +29,7 @@ returns c =
     let at = start .args .at in
     let n = start .args .n in
     record {
+      size = refl;
       place = omega (arith, call .put-eight .ensures .place, length-last 8 n, length-last 7 n);
       bytes =
           ap (λ (x : List _). set x at 46) (call .put-eight .ensures .bytes ∙ ap (put l at) (last-cons 7 n (start .pre .0)))

@@ -9,8 +9,8 @@ use borrow.Author.Needs.{needs}
 use Rattle.decimal.proofs.put_eight.Statement.{statement}
 use Rattle.decimal.proofs.put_eight.Tie as tie
 
-myriads-requires : tie.Need-myriads-requires
-myriads-requires c κs = search needs
+ten-thousands-requires : tie.Need-ten-thousands-requires
+ten-thousands-requires c κs = search needs
 
 put-four-requires : tie.Need-put-four-requires
 put-four-requires c κs = search needs
@@ -22,7 +22,7 @@ sub-put-four : tie.Need-sub-put-four
 sub-put-four c = search needs
 
 put-four-requires-2 : tie.Need-put-four-requires-2
-put-four-requires-2 c κs = omega (arith, length-last 4 (c .before .before .before .before .before .myriads .result))
+put-four-requires-2 c κs = omega (arith, length-last 4 (c .before .before .before .before .before .ten-thousands .result))
 
 same-length : tie.Need-same-length
 same-length c = search needs
@@ -34,13 +34,13 @@ returns c =
     let part = first .before .before in
     let start = part .before .before in
     then (lastDigits 8 (start .args .n)) (omega arith) (first .put-four .ensures) (second .put-four2 .ensures)
-    (split-last 4 (start .args .n) (part .myriads .result) (part .myriads .ensures) 4)
+    (split-last 4 (start .args .n) (part .ten-thousands .result) (part .ten-thousands .ensures) 4)
 
 pub put-eight-spec : {M : Type 1} → statement M
 put-eight-spec =
     tie.close
     (tie.spec
-    myriads-requires
+    ten-thousands-requires
     put-four-requires
     mul-put-four
     sub-put-four

@@ -32,8 +32,8 @@ next q w h e = omega arith
 kept : (q x : ℕ) → x ≤ q → q ≡ x + (q - x)
 kept q x h = omega arith
 
-put-pointed-requires : tie.Need-put-pointed-requires
-put-pointed-requires c κs = search needs
+put-with-point-requires : tie.Need-put-with-point-requires
+put-with-point-requires c κs = search needs
 
 same-length : tie.Need-same-length
 same-length c = search needs
@@ -42,7 +42,7 @@ returns : tie.Need-returns
 returns c =
     let d = c .before .before in
     let s = d .before .before .before .before in
-    same (withPoint (closest (s .args .m * 10 ^ 7) (2 ^ s .args .d))) (d .put-pointed .ensures)
+    same (withPoint (closest (s .args .m * 10 ^ 7) (2 ^ s .args .d))) (d .put-with-point .ensures)
     (ap withPoint (vanishes (s .args .m) (s .args .d) (s .pre .0) (d .before .before .if1 .taken)))
 
 mul-nearest-shifted : tie.Need-mul-nearest-shifted
@@ -60,11 +60,11 @@ mul-rest c = omega (arith, whole-small c)
 sub-rest : tie.Need-sub-rest
 sub-rest c = from c
 
-add-put-pointed : tie.Need-add-put-pointed
-add-put-pointed c = search needs
+add-put-with-point : tie.Need-add-put-with-point
+add-put-with-point c = search needs
 
-put-pointed-requires-2 : tie.Need-put-pointed-requires-2
-put-pointed-requires-2 c κs = omega (arith, whole-small (c .before .before))
+put-with-point-requires-2 : tie.Need-put-with-point-requires-2
+put-with-point-requires-2 c κs = omega (arith, whole-small (c .before .before))
 
 same-length-2 : tie.Need-same-length-2
 same-length-2 c = search needs
@@ -73,11 +73,11 @@ returns-2 : tie.Need-returns-2
 returns-2 c =
     let d = c .before .before in
     let q = d .before .before .before in
-    same (withPoint _) (d .put-pointed2 .ensures)
+    same (withPoint _) (d .put-with-point2 .ensures)
     (ap withPoint (sym (q .nearest-shifted .ensures) ∙ next (q .nearest-shifted .result) (whole q) (from q) (d .before .before .if2 .taken)))
 
-put-pointed-requires-3 : tie.Need-put-pointed-requires-3
-put-pointed-requires-3 c κs =
+put-with-point-requires-3 : tie.Need-put-with-point-requires-3
+put-with-point-requires-3 c κs =
     let q = c .before .before in
     omega (arith, whole-small q, from q, to q, c .before .if2 .left)
 
@@ -88,14 +88,14 @@ returns-3 : tie.Need-returns-3
 returns-3 c =
     let d = c .before .before in
     let q = d .before .before .before in
-    same (withPoint _) (d .put-pointed3 .ensures)
+    same (withPoint _) (d .put-with-point3 .ensures)
     (ap withPoint (sym (q .nearest-shifted .ensures) ∙ kept (q .nearest-shifted .result) (whole q * 10 ^ 7) (from q)))
 
 pub put-fraction-spec : {M : Type 1} → statement M
 put-fraction-spec =
     tie.close
     (tie.spec
-    put-pointed-requires
+    put-with-point-requires
     same-length
     returns
     mul-nearest-shifted
@@ -103,10 +103,10 @@ put-fraction-spec =
     shr-whole
     mul-rest
     sub-rest
-    add-put-pointed
-    put-pointed-requires-2
+    add-put-with-point
+    put-with-point-requires-2
     same-length-2
     returns-2
-    put-pointed-requires-3
+    put-with-point-requires-3
     same-length-3
     returns-3)

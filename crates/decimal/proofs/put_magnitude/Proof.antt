@@ -6,10 +6,12 @@ use Prim.Native.Nat.{ℕ, _+_, _-_, _*_, _^_}
 use native.Mathlib.Nat.{mul-one}
 use native.Mathlib.Omega.{arith}
 use borrow.Author.Tests.{eq-eqb, ne-eqb}
+use lib.Ieee.{binary32}
 use lib.Ieee.Nearest.{closest}
 use Rattle.decimal.specs.Seven.{withPoint}
 use Rattle.buffer.specs.PutsLaws.{same}
-use Rattle.decimal.proofs.Value.{significand, fewer, whole}
+use Rattle.floats.specs.Fields.{significand}
+use Rattle.decimal.proofs.Value.{fewer, whole}
 use borrow.Author.Needs.{needs}
 use Rattle.decimal.proofs.put_magnitude.Statement.{statement}
 use Rattle.decimal.proofs.put_magnitude.Tie as tie
@@ -18,13 +20,13 @@ use Rattle.decimal.proofs.put_magnitude.Tie as tie
 abbrev rounded : ℕ → ℕ → ℕ
 rounded a field = closest (a * 2 ^ (field - 1) * 10 ^ 7) (2 ^ 149)
 
-no-lead : (field t : ℕ) → field ≡ 0 → rounded (significand field t) field ≡ closest (t * 10 ^ 7) (2 ^ 149)
+no-lead : (field t : ℕ) → field ≡ 0 → rounded (significand binary32 field t) field ≡ closest (t * 10 ^ 7) (2 ^ 149)
 no-lead field t e =
     ap (λ (a : ℕ). rounded a field) (ap (λ (z : Bool). cond z t (2 ^ 23 + t)) (eq-eqb field 0 e))
     ∙ ap (λ (k : ℕ). rounded t k) e
     ∙ ap (λ (a : ℕ). closest (a * 10 ^ 7) (2 ^ 149)) (mul-one t)
 
-lead : (field t : ℕ) → (field ≡ 0 → ⊥) → rounded (significand field t) field ≡ rounded (2 ^ 23 + t) field
+lead : (field t : ℕ) → (field ≡ 0 → ⊥) → rounded (significand binary32 field t) field ≡ rounded (2 ^ 23 + t) field
 lead field t h = ap (λ (a : ℕ). rounded a field) (ap (λ (z : Bool). cond z t (2 ^ 23 + t)) (ne-eqb field 0 h))
 
 put-fraction-requires : tie.Need-put-fraction-requires

@@ -9,7 +9,7 @@ use lib.ListN.{length}
 use Rattle.decimal.specs.Decimal.{digits}
 use Rattle.decimal.specs.Parts.{shown, valueOf}
 use Rattle.decimal.specs.PartsLaws.{next-part, shown-none, shown-some, length-shown}
-use Rattle.buffer.specs.Puts.{Puts}
+use Rattle.buffer.specs.Puts.{PutsText}
 use Rattle.buffer.specs.PutsLaws.{same, none}
 use Rattle.decimal.proofs.Doubling.{first, grow, horner, room}
 use borrow.Author.Needs.{needs}
@@ -62,18 +62,18 @@ to1 c = c .before .before .before .before
 fine : (s : tie.Start) → s .args .at ≤ length (s .args .out .now)
 fine s = le-trans (le-add-right (s .args .at) 39) (s .pre .1 .1)
 
-put4 : (c : tie.After-put-part) → Puts (start c .args .out .now) (start c .args .at) (shown (v4 (start c))) (c .put-part .result) (c .put-part .last .0)
+put4 : (c : tie.After-put-part) → PutsText (start c .args .out .now) (start c .args .at) (shown (v4 (start c))) (c .put-part .result) (c .put-part .last .0)
 put4 c =
     let s = start c in
     next-part 0 (s .args .b .p4) (fine s) (s .pre .0 .0 .part4) (same (shown 0) (none (s .args .out .now) (s .args .at)) (shown-none 0 refl)) (c .put-part .ensures)
 
-put3 : (c : tie.After-put-part2) → Puts (start (to4 c) .args .out .now) (start (to4 c) .args .at) (shown (v3 (start (to4 c)))) (c .put-part2 .result) (c .put-part2 .last .0)
+put3 : (c : tie.After-put-part2) → PutsText (start (to4 c) .args .out .now) (start (to4 c) .args .at) (shown (v3 (start (to4 c)))) (c .put-part2 .result) (c .put-part2 .last .0)
 put3 c = let s = start (to4 c) in next-part (v4 s) (s .args .b .p3) (fine s) (s .pre .0 .0 .part3) (put4 (to4 c)) (c .put-part2 .ensures)
 
-put2 : (c : tie.After-put-part3) → Puts (start (to4 (to3 c)) .args .out .now) (start (to4 (to3 c)) .args .at) (shown (v2 (start (to4 (to3 c))))) (c .put-part3 .result) (c .put-part3 .last .0)
+put2 : (c : tie.After-put-part3) → PutsText (start (to4 (to3 c)) .args .out .now) (start (to4 (to3 c)) .args .at) (shown (v2 (start (to4 (to3 c))))) (c .put-part3 .result) (c .put-part3 .last .0)
 put2 c = let s = start (to4 (to3 c)) in next-part (v3 s) (s .args .b .p2) (fine s) (s .pre .0 .0 .part2) (put3 (to3 c)) (c .put-part3 .ensures)
 
-put1 : (c : tie.After-put-part4) → Puts (start (to4 (to3 (to2 c))) .args .out .now) (start (to4 (to3 (to2 c))) .args .at) (shown (v1 (start (to4 (to3 (to2 c)))))) (c .put-part4 .result) (c .put-part4 .last .0)
+put1 : (c : tie.After-put-part4) → PutsText (start (to4 (to3 (to2 c))) .args .out .now) (start (to4 (to3 (to2 c))) .args .at) (shown (v1 (start (to4 (to3 (to2 c)))))) (c .put-part4 .result) (c .put-part4 .last .0)
 put1 c = let s = start (to4 (to3 (to2 c))) in next-part (v2 s) (s .args .b .p1) (fine s) (s .pre .0 .0 .part1) (put2 (to2 c)) (c .put-part4 .ensures)
 
 put-part-requires : tie.Need-put-part-requires

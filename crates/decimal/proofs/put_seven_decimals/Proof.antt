@@ -10,7 +10,8 @@ use lib.ListN.{length}
 use lib.Ieee.{Float, binary32, fits, isNan, toBits}
 use Rattle.decimal.specs.Seven.{minus, sevenDecimals}
 use Rattle.buffer.specs.PutsLaws.{then, same, wrote}
-use Rattle.decimal.proofs.Value.{equals-itself, nan-text, b-lt, finite-text, infinite-text}
+use Rattle.floats.specs.FieldsLaws.{equals-itself}
+use Rattle.decimal.proofs.Value.{nan-text, b-lt, finite-text, infinite-text}
 use borrow.Author.Needs.{needs}
 use Rattle.decimal.proofs.put_seven_decimals.Statement.{statement}
 use Rattle.decimal.proofs.put_seven_decimals.Tie as tie
@@ -49,8 +50,7 @@ returns : tie.Need-returns
 returns c =
     let d = c .before .before in
     let s = d .before .before .before .before .before in
-    let p = same (sevenDecimals (x s)) (wrote (s .args .out .now) (s .args .at) (78 ∷ 97 ∷ 78 ∷ []) (d .put-bytes .ensures)) (nan-text (x s) (d .before .before .before .if1 .taken)) in
-    (p .place, p .bytes)
+    same (sevenDecimals (x s)) (wrote (s .args .out .now) (s .args .at) (78 ∷ 97 ∷ 78 ∷ []) (d .put-bytes .ensures)) (nan-text (x s) (d .before .before .before .if1 .taken))
 
 float-to-bits-bits : tie.Need-float-to-bits-bits
 float-to-bits-bits c = no-nan c
@@ -77,9 +77,8 @@ returns-2 c =
     let d = c .before .before in
     let a = d .before .before .before .before .before .before in
     let s = start a in
-    let p = then (sevenDecimals (x s)) (omega (arith, s .pre)) (a .put-minus .ensures) (wrote _ (a .put-minus .result) (105 ∷ 110 ∷ 102 ∷ []) (d .put-bytes2 .ensures))
-    (infinite-text (x s) (held s) (no-nan (a .before .before)) (d .before .before .before .if2 .taken)) in
-    (p .place, p .bytes)
+    then (sevenDecimals (x s)) (omega (arith, s .pre)) (a .put-minus .ensures) (wrote _ (a .put-minus .result) (105 ∷ 110 ∷ 102 ∷ []) (d .put-bytes2 .ensures))
+    (infinite-text (x s) (held s) (no-nan (a .before .before)) (d .before .before .before .if2 .taken))
 
 put-magnitude-requires : tie.Need-put-magnitude-requires
 put-magnitude-requires c κs =
@@ -94,9 +93,8 @@ returns-3 c =
     let d = c .before .before in
     let a = d .before .before .before .before .before in
     let s = start a in
-    let p = then (sevenDecimals (x s)) (omega (arith, s .pre)) (a .put-minus .ensures) (d .put-magnitude .ensures)
-    (finite-text (x s) (held s) (omega (arith, d .before .before .if2 .left))) in
-    (p .place, p .bytes)
+    then (sevenDecimals (x s)) (omega (arith, s .pre)) (a .put-minus .ensures) (d .put-magnitude .ensures)
+    (finite-text (x s) (held s) (omega (arith, d .before .before .if2 .left)))
 
 pub put-seven-decimals-spec : {M : Type 1} → statement M
 put-seven-decimals-spec =

@@ -55,6 +55,7 @@ returns : tie.Need-returns
 unfolding lastDigits
 returns c =
     record {
+      size = refl;
       place = refl;
       bytes = two-stores _ (c .args .at) _ _ (c .pre .1) ∙ ap₂ (λ (x y : ℕ). put (c .args .out .now) (c .args .at) (x ∷ y ∷ [])) (omega (arith, tens (c .args .n) (c .pre .0))) (omega (arith, tens (c .args .n) (c .pre .0)));
     }

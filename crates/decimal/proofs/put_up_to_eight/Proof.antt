@@ -18,8 +18,8 @@ same-length c = search needs
 returns : tie.Need-returns
 returns c = search needs
 
-myriads-requires : tie.Need-myriads-requires
-myriads-requires c κs = search needs
+ten-thousands-requires : tie.Need-ten-thousands-requires
+ten-thousands-requires c κs = search needs
 
 put-up-to-four-requires-2 : tie.Need-put-up-to-four-requires-2
 put-up-to-four-requires-2 c κs = search needs
@@ -31,7 +31,7 @@ sub-put-four : tie.Need-sub-put-four
 sub-put-four c = search needs
 
 put-four-requires : tie.Need-put-four-requires
-put-four-requires c κs = let part = c .before .before .before .before .before in omega (arith, length-digits 3 (part .myriads .result) (omega arith))
+put-four-requires c κs = let part = c .before .before .before .before .before in omega (arith, length-digits 3 (part .ten-thousands .result) (omega arith))
 
 same-length-2 : tie.Need-same-length-2
 same-length-2 c = search needs
@@ -43,7 +43,7 @@ returns-2 c =
     let part = first .before .before in
     let start = part .before .before .before in
     then (digits (start .args .n)) (omega arith) (first .put-up-to-four2 .ensures) (second .put-four .ensures)
-    (split-digits 4 (start .args .n) (part .myriads .result) (part .myriads .ensures) (part .before .if1 .left))
+    (split-digits 4 (start .args .n) (part .ten-thousands .result) (part .ten-thousands .ensures) (part .before .if1 .left))
 
 pub put-up-to-eight-spec : {M : Type 1} → statement M
 put-up-to-eight-spec =
@@ -52,7 +52,7 @@ put-up-to-eight-spec =
     put-up-to-four-requires
     same-length
     returns
-    myriads-requires
+    ten-thousands-requires
     put-up-to-four-requires-2
     mul-put-four
     sub-put-four

@@ -1,4 +1,4 @@
--- The digits of the doubled number, then a point and zeros: the law `pointed`.
+-- The digits of the doubled number, then a point and zeros: the law `withPoint-is`.
 -- Assumes nothing.
 use mathlib.Core.Path.{_≡_, sym, ap, _∙_, subst}
 use mathlib.Core.List.{_++_, _∷_}
@@ -13,7 +13,7 @@ use Rattle.decimal.specs.Parts.{valueOf}
 use Rattle.decimal.specs.Seven.{withPoint}
 use Rattle.buffer.specs.PutsLaws.{then}
 use Rattle.decimal.proofs.Doubling.{top}
-use Rattle.decimal.proofs.Split.{pointed}
+use Rattle.decimal.proofs.Split.{withPoint-is}
 use borrow.Author.Needs.{needs}
 use Rattle.decimal.proofs.put_whole.Statement.{statement}
 use Rattle.decimal.proofs.put_whole.Tie as tie
@@ -57,7 +57,7 @@ returns c =
     let s = a .before .before .before .before in
     let v = s .args .m * 2 ^ s .args .k in
     then (withPoint (v * 10 ^ 7)) (omega (arith, s .pre .1 .1)) (a .put-parts .ensures) (d .put-decimals .ensures)
-    (ap withPoint (sym (add-zero (v * 10 ^ 7))) ∙ pointed v 0 (lit< tt)
+    (ap withPoint (sym (add-zero (v * 10 ^ 7))) ∙ withPoint-is v 0 (lit< tt)
     ∙ ap (λ (n : ℕ). digits n ++ (46 ∷ lastDigits 7 0)) (sym (a .before .shifted .ensures .0)))
 
 pub put-whole-spec : {M : Type 1} → statement M

@@ -15,7 +15,7 @@ put-seven-decimals-requires c κs = search needs
 returns : tie.Need-returns
 returns c =
     let call = c .before .put-seven-decimals in
-    in-front 48 {q = sevenDecimals (c .before .before .before .args .x)} (record { place = call .ensures .0; bytes = call .ensures .1 })
+    in-front 48 {q = sevenDecimals (c .before .before .before .args .x)} (call .ensures)
 
 pub seven-decimals-spec : {M : Type 1} → statement M
 seven-decimals-spec =

@@ -4,7 +4,7 @@ use lib.Dec.{T}
 use lib.Ieee.{binary32, toBits}
 use lib.Ieee.Compare.{differs-from-itself}
 use borrow.Author.Needs.{needs}
-use Rattle.numbers.proofs.Patterns.{equals-itself}
+use Rattle.floats.specs.FieldsLaws.{equals-itself}
 use Rattle.numbers.proofs.bits.f32_to_bits.Statement.{statement}
 use Rattle.numbers.proofs.bits.f32_to_bits.Tie as tie
 

@@ -1,7 +1,7 @@
 -- The test tells the NaN patterns from the others. Assumes nothing.
 use lib.Ieee.{binary64}
 use borrow.Author.Needs.{needs}
-use Rattle.numbers.proofs.Patterns.{no-nan, no-number}
+use Rattle.floats.specs.FieldsLaws.{no-nan, no-number}
 use Rattle.numbers.proofs.bits.f64_from_bits.Statement.{statement}
 use Rattle.numbers.proofs.bits.f64_from_bits.Tie as tie
 

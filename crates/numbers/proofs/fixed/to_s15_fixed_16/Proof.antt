@@ -9,8 +9,9 @@ use mir.Syntax.{w32}
 use mir.ValLaws.{toZ-ofZ}
 use borrow.Author.Needs.{needs}
 use Rattle.numbers.specs.declared.fixed.S15Fixed16.the-variants.{Number}
-use Rattle.numbers.proofs.FixedNumber.{nan-refused, b-lt, digits-lt, digitsOf, scaledOf, refused-far, refused-near, kept}
-use Rattle.numbers.proofs.Patterns.{equals-itself}
+use Rattle.numbers.proofs.FixedNumber.{nan-refused, b-lt, digits-lt, scaledOf, refused-far, refused-near, kept}
+use Rattle.floats.specs.Fields.{significand}
+use Rattle.floats.specs.FieldsLaws.{equals-itself}
 use Rattle.numbers.proofs.fixed.to_s15_fixed_16.Statement.{statement}
 use Rattle.numbers.proofs.fixed.to_s15_fixed_16.Tie as tie
 
@@ -53,8 +54,11 @@ module _ (c : tie.After-scaled) where
   abbrev b : ℕ
   b = toBits binary32 (x start)
 
-  number : c .scaled .result ≡ scaledOf (digitsOf (b % 2 ^ 31 / 2 ^ 23) (b % 2 ^ 23)) (b % 2 ^ 31 / 2 ^ 23 - 1)
+  number : c .scaled .result ≡ scaledOf (significand binary32 (b % 2 ^ 31 / 2 ^ 23) (b % 2 ^ 23)) (b % 2 ^ 31 / 2 ^ 23 - 1)
   number = c .scaled .ensures .0 ∙ ap₂ (λ (q k : ℕ). scaledOf q k) (c .before .before .significand .ensures) (c .before .exponent .ensures)
+
+cast-if3 : tie.Need-cast-if3
+cast-if3 c = search needs
 
 returns-3 : tie.Need-returns-3
 returns-3 c =
@@ -81,6 +85,7 @@ to-s15-fixed-16-spec =
     significand-requires
     exponent-requires
     scaled-requires
+    cast-if3
     returns-3
     with-sign-requires
     returns-4)

@@ -7,7 +7,7 @@ use native.Mathlib.Omega.{arith}
 use lib.Dec.{T}
 use lib.Ieee.{Float, binary64, fits, isNan, toBits}
 use Rattle.numbers.proofs.NarrowPattern.{nan-narrows, sign-le, sign-no-nan, b-lt, finish, infinite}
-use Rattle.numbers.proofs.Patterns.{equals-itself}
+use Rattle.floats.specs.FieldsLaws.{equals-itself}
 use borrow.Author.Needs.{needs}
 use Rattle.numbers.proofs.narrow.f64_to_f32.Statement.{statement}
 use Rattle.numbers.proofs.narrow.f64_to_f32.Tie as tie

@@ -32,7 +32,7 @@ same-length c = search needs
 
 returns : tie.Need-returns
 unfolding be16
-returns c = (refl, rw (c .before .low-byte .ensures, c .low-byte2 .ensures) (two-stores _ _ _ _ (omega arith)))
+returns c = record { size = refl; place = refl; bytes = rw (c .before .low-byte .ensures, c .low-byte2 .ensures) (two-stores _ _ _ _ (omega arith)) }
 
 pub put-u16-be-spec : {M : Type 1} → statement M
 put-u16-be-spec =

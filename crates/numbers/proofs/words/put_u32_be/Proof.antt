@@ -1,13 +1,8 @@
--- A half put after the other is the whole word: the laws `put-put` and `be32-halves`.
+-- A half put after the other is the whole word: the laws `joined` and `be32-halves`.
 -- Assumes nothing.
-use Prim.Native.Nat.{ℕ, _/_, _%_}
-use mathlib.Core.Path.{sym, ap, _∙_}
-use mathlib.Core.List.{List}
 use native.Mathlib.Omega.{arith}
 use borrow.Author.Needs.{needs}
-use Rattle.buffer.specs.Buffer.{put}
-use Rattle.buffer.specs.BufferLaws.{put-put}
-use Rattle.numbers.specs.Words.{be16}
+use Rattle.buffer.specs.PutsLaws.{joined}
 use Rattle.numbers.specs.WordsLaws.{be32-halves}
 use Rattle.numbers.proofs.words.put_u32_be.Statement.{statement}
 use Rattle.numbers.proofs.words.put_u32_be.Tie as tie
@@ -28,18 +23,10 @@ same-length : tie.Need-same-length
 same-length c = search needs
 
 returns : tie.Need-returns
-unfolding be16
 returns c =
-    let start = c .before .before .before .before .before .before .before .before .before in
     let first = c .before .before .before .before .before .before .put-u16-be in
     let second = c .before .before .put-u16-be2 in
-    let l = start .args .out .now in
-    let v = start .args .value in (
-      omega arith,
-      second .ensures .1
-          ∙ rw (first .ensures .0, first .ensures .1) (put-put l (start .args .at) (be16 (v / 65536)) (be16 (v % 65536)) (omega arith))
-          ∙ ap (λ (x : List ℕ). put l (start .args .at) x) (sym (be32-halves v)),
-    )
+    rw be32-halves (joined (omega arith) (first .ensures) (second .ensures))
 
 pub put-u32-be-spec : {M : Type 1} → statement M
 put-u32-be-spec =

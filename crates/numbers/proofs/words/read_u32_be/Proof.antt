@@ -1,13 +1,13 @@
--- Where the word is within the slice its halves are read, and else each byte that is there: the laws `word32-drop` and `word32-bytes`.
+-- Where the word is within the slice its halves are read, and else each half as far as it is there: the laws `word32-drop` and `word32-halves`.
 -- Assumes nothing.
 use Prim.Native.Nat.{ℕ, _+_, _*_, _≤_}
 use mathlib.Core.Path.{sym, ap₂, _∙_}
-use native.Mathlib.Nat.{add-zero}
 use native.Mathlib.Omega.{arith}
-use lib.ListN.{length}
+use lib.ListN.{length, drop}
 use borrow.Author.Needs.{needs}
 use borrow.Author.Tests.{leb-true}
-use Rattle.numbers.specs.WordsLaws.{word32-drop, word32-bytes}
+use Rattle.numbers.specs.WordsLaws.{word32-drop, word32-halves, word32-past}
+use Rattle.numbers.proofs.Rest.{from-on}
 use Rattle.numbers.proofs.words.read_u32_be.Statement.{statement}
 use Rattle.numbers.proofs.words.read_u32_be.Tie as tie
 
@@ -36,36 +36,32 @@ returns c =
     ∙ ap₂ (λ (h l : ℕ). h * 65536 + l) (c .before .before .get-u16-be .ensures) (c .before .get-u16-be2 .ensures)
     ∙ sym (word32-drop (a .pos) (a .slice .now))
 
-byte-at-requires : tie.Need-byte-at-requires
-byte-at-requires c κs = search needs
+returns-2 : tie.Need-returns-2
+returns-2 c = let a = c .before .before .before .before .args in sym (word32-past (a .slice .now) (a .pos) (c .if2 .taken))
 
-byte-at-requires-2 : tie.Need-byte-at-requires-2
-byte-at-requires-2 c κs = search needs
+sub-rest : tie.Need-sub-rest
+sub-rest c = search needs
 
-join-bytes-requires : tie.Need-join-bytes-requires
-join-bytes-requires c κs = search needs
+part-rest-start : tie.Need-part-rest-start
+part-rest-start c = search needs
 
-byte-at-requires-3 : tie.Need-byte-at-requires-3
-byte-at-requires-3 c κs = search needs
+part-rest-end : tie.Need-part-rest-end
+part-rest-end c = search needs
 
-byte-at-requires-4 : tie.Need-byte-at-requires-4
-byte-at-requires-4 c κs = search needs
+read-u16-be-requires : tie.Need-read-u16-be-requires
+read-u16-be-requires c κs = search needs
 
-join-bytes-requires-2 : tie.Need-join-bytes-requires-2
-join-bytes-requires-2 c κs = search needs
+read-u16-be-requires-2 : tie.Need-read-u16-be-requires-2
+read-u16-be-requires-2 c κs = search needs
 
 join-halves-requires-2 : tie.Need-join-halves-requires-2
 join-halves-requires-2 c κs = search needs
 
-returns-2 : tie.Need-returns-2
-returns-2 c =
-    let low = c .before in
-    let high = low .before .before .before in
-    let a = high .before .before .before .before .before .before .args in
+returns-3 : tie.Need-returns-3
+returns-3 c =
+    let a = c .before .before .before .before .before .before .before .before .args in
     c .join-halves2 .ensures
-    ∙ rw (high .join-bytes .ensures, low .join-bytes2 .ensures)
-    (rw (high .before .before .byte-at .ensures, high .before .byte-at2 .ensures, low .before .before .byte-at3 .ensures, low .before .byte-at4 .ensures, add-zero (a .pos))
-    (sym (word32-bytes (a .pos) (a .slice .now))))
+    ∙ rw (c .before .before .read-u16-be .ensures, c .before .read-u16-be2 .ensures, from-on (a .slice .now) (a .pos)) (sym (word32-halves (drop (a .pos) (a .slice .now))))
 
 pub read-u32-be-spec : {M : Type 1} → statement M
 read-u32-be-spec =
@@ -77,11 +73,11 @@ read-u32-be-spec =
     get-u16-be-requires-2
     join-halves-requires
     returns
-    byte-at-requires
-    byte-at-requires-2
-    join-bytes-requires
-    byte-at-requires-3
-    byte-at-requires-4
-    join-bytes-requires-2
+    returns-2
+    sub-rest
+    part-rest-start
+    part-rest-end
+    read-u16-be-requires
+    read-u16-be-requires-2
     join-halves-requires-2
-    returns-2)
+    returns-3)

@@ -19,7 +19,7 @@ same-length c = search needs
 returns : tie.Need-returns
 returns c =
     let then = c .before .before .before .before in
-    taken _ _ (then .before .has-room .ensures) (then .if1 .taken) (c .before .before .put-u16-be .ensures .1)
+    taken _ _ (then .before .has-room .ensures) (then .if1 .taken) (c .before .before .put-u16-be .ensures .bytes)
 
 returns-2 : tie.Need-returns-2
 returns-2 c = left _ _ (c .before .has-room .ensures) (c .if1 .left) refl

@@ -1,13 +1,13 @@
--- The whole part, then the point and the decimals: the law `pointed`.
+-- The whole part, then the point and the decimals: the law `withPoint-is`.
 -- Assumes nothing.
 use native.Mathlib.Omega.{arith}
 use Rattle.decimal.specs.DecimalLaws.{length-digits}
 use Rattle.decimal.specs.Seven.{withPoint}
 use Rattle.buffer.specs.PutsLaws.{then}
-use Rattle.decimal.proofs.Split.{pointed}
+use Rattle.decimal.proofs.Split.{withPoint-is}
 use borrow.Author.Needs.{needs}
-use Rattle.decimal.proofs.put_pointed.Statement.{statement}
-use Rattle.decimal.proofs.put_pointed.Tie as tie
+use Rattle.decimal.proofs.put_with_point.Statement.{statement}
+use Rattle.decimal.proofs.put_with_point.Tie as tie
 
 put-up-to-eight-requires : tie.Need-put-up-to-eight-requires
 put-up-to-eight-requires c κs = search needs
@@ -25,8 +25,8 @@ returns c =
     let second = c .before .before in
     let first = second .before .before .before .before in
     let start = first .before .before .before in
-    then (withPoint _) (omega arith) (first .put-up-to-eight .ensures) (second .put-decimals .ensures) (pointed (start .args .whole) (start .args .rest) (start .pre .0 .1))
+    then (withPoint _) (omega arith) (first .put-up-to-eight .ensures) (second .put-decimals .ensures) (withPoint-is (start .args .whole) (start .args .rest) (start .pre .0 .1))
 
-pub put-pointed-spec : {M : Type 1} → statement M
-put-pointed-spec =
+pub put-with-point-spec : {M : Type 1} → statement M
+put-with-point-spec =
     tie.close (tie.spec put-up-to-eight-requires put-decimals-requires same-length returns)
