@@ -27,71 +27,102 @@ use Rattle.color_encoding.specs.declared.JxlColorEncoding.the-variants.{
 use Rattle.color_encoding.specs.declared.EncodingCode.{EncodingCode}
 use Rattle.color_encoding.specs.declared.EncodingCode.the-variants as EC
 
+-- 43: a kind, curve or intent has no meaning
+abbrev pub unknown : {A : Type 0} → Checked A
+unknown = refused 43
+
+-- the meaning of a number
+abbrev pub from : {A : Type 0} → List A → ℕ → Checked A
+from meanings n = getD (map is meanings) n unknown
+
 abbrev pub intentList : List RenderingIntent
 intentList = Perceptual ∷ Relative ∷ Saturation ∷ Absolute ∷ []
 
-abbrev pub intentFrom : ℕ → IntentCode
-intentFrom n = getD (map IC.Known intentList) n IC.Unknown
+abbrev pub intentFrom : ℕ → Checked RenderingIntent
+intentFrom n = from intentList n
 
 -- the floats are the coordinates of the last one
 abbrev pub whitePointList : Float → Float → List JxlWhitePoint
 whitePointList wx wy = W.D65 ∷ W.E ∷ W.DCI ∷ W.Chromaticity wx wy ∷ []
 
-abbrev pub whitePointFrom : ℕ → Float → Float → WhitePointCode
-whitePointFrom n wx wy = getD (map WC.Known (whitePointList wx wy)) n WC.Unknown
+abbrev pub whitePointFrom : ℕ → Float → Float → Checked JxlWhitePoint
+whitePointFrom n wx wy = from (whitePointList wx wy) n
 
 -- the floats are the coordinates of the last one
 abbrev pub primariesList : Float → Float → Float → Float → Float → Float → List JxlPrimaries
 primariesList rx ry gx gy bx by = P.SRGB ∷ P.BT2100 ∷ P.P3 ∷ P.Chromaticities rx ry gx gy bx by ∷ []
 
-abbrev pub primariesFrom : ℕ → Float → Float → Float → Float → Float → Float → PrimariesCode
-primariesFrom n rx ry gx gy bx by = getD (map PC.Known (primariesList rx ry gx gy bx by)) n PC.Unknown
+abbrev pub primariesFrom : ℕ → Float → Float → Float → Float → Float → Float → Checked JxlPrimaries
+primariesFrom n rx ry gx gy bx by = from (primariesList rx ry gx gy bx by) n
 
 -- in the order of `JxlTransferFunction`; the float is the last one's
 abbrev pub transferFunctionList : Float → List JxlTransferFunction
 transferFunctionList gamma = F.BT709 ∷ F.Linear ∷ F.SRGB ∷ F.PQ ∷ F.DCI ∷ F.HLG ∷ F.Gamma gamma ∷ []
 
-abbrev pub transferFunctionFrom : ℕ → Float → TransferFunctionCode
-transferFunctionFrom n gamma = getD (map FC.Known (transferFunctionList gamma)) n FC.Unknown
+abbrev pub transferFunctionFrom : ℕ → Float → Checked JxlTransferFunction
+transferFunctionFrom n gamma = from (transferFunctionList gamma) n
 
--- ---- what a code gives, or refusal 43
+-- ---- the number of a meaning: its place in the list
+
+abbrev pub whitePointNumber : JxlWhitePoint → ℕ
+whitePointNumber W.D65 = 0
+whitePointNumber W.E = 1
+whitePointNumber W.DCI = 2
+whitePointNumber (W.Chromaticity wx wy) = 3
+
+abbrev pub primariesNumber : JxlPrimaries → ℕ
+primariesNumber P.SRGB = 0
+primariesNumber P.BT2100 = 1
+primariesNumber P.P3 = 2
+primariesNumber (P.Chromaticities rx ry gx gy bx by) = 3
+
+abbrev pub transferFunctionNumber : JxlTransferFunction → ℕ
+transferFunctionNumber F.BT709 = 0
+transferFunctionNumber F.Linear = 1
+transferFunctionNumber F.SRGB = 2
+transferFunctionNumber F.PQ = 3
+transferFunctionNumber F.DCI = 4
+transferFunctionNumber F.HLG = 5
+transferFunctionNumber (F.Gamma g) = 6
+
+-- ---- what a call answers: a meaning, or none
 
 abbrev pub knownIntent : IntentCode → Checked RenderingIntent
 knownIntent (IC.Known i) = is i
-knownIntent IC.Unknown = refused 43
+knownIntent IC.Unknown = unknown
 
 abbrev pub knownWhitePoint : WhitePointCode → Checked JxlWhitePoint
 knownWhitePoint (WC.Known w) = is w
-knownWhitePoint WC.Unknown = refused 43
+knownWhitePoint WC.Unknown = unknown
 
 abbrev pub knownPrimaries : PrimariesCode → Checked JxlPrimaries
 knownPrimaries (PC.Known p) = is p
-knownPrimaries PC.Unknown = refused 43
+knownPrimaries PC.Unknown = unknown
 
 abbrev pub knownTransferFunction : TransferFunctionCode → Checked JxlTransferFunction
 knownTransferFunction (FC.Known t) = is t
-knownTransferFunction FC.Unknown = refused 43
+knownTransferFunction FC.Unknown = unknown
 
 abbrev pub knownEncoding : EncodingCode → Checked JxlColorEncoding
 knownEncoding (EC.Known e) = is e
-knownEncoding EC.Unknown = refused 43
+knownEncoding EC.Unknown = unknown
 
--- ---- the encoding that codes give together
+-- ---- the encoding that the parts give together
 
-abbrev pub grayFrom : WhitePointCode → TransferFunctionCode → IntentCode → Checked JxlColorEncoding
+abbrev pub grayFrom : Checked JxlWhitePoint → Checked JxlTransferFunction → Checked RenderingIntent → Checked JxlColorEncoding
 grayFrom w t i =
-    then (knownWhitePoint w) (λ a.
-    then (knownTransferFunction t) (λ b.
-    then (knownIntent i) (λ c.
+    then w (λ a.
+    then t (λ b.
+    then i (λ c.
     is (GrayscaleColorSpace a b c))))
 
-abbrev pub rgbFrom : WhitePointCode → PrimariesCode → TransferFunctionCode → IntentCode → Checked JxlColorEncoding
+abbrev pub rgbFrom : Checked JxlWhitePoint → Checked JxlPrimaries → Checked JxlTransferFunction → Checked RenderingIntent → Checked JxlColorEncoding
 rgbFrom w p t i =
-    then (knownWhitePoint w) (λ a.
-    then (knownPrimaries p) (λ b.
-    then (knownTransferFunction t) (λ c.
-    then (knownIntent i) (λ d.
+    then w (λ a.
+    then p (λ b.
+    then t (λ c.
+    then i (λ d.
     is (RgbColorSpace a b c d)))))
 
-abbrev pub xybFrom : IntentCode → Checked JxlColorEncoding
-xybFrom i = then (knownIntent i) (λ a. is (XYB a))
+abbrev pub xybFrom : Checked RenderingIntent → Checked JxlColorEncoding
+xybFrom i = then i (λ a. is (XYB a))

@@ -1,4 +1,7 @@
 pub mod Coordinates
 pub mod Intent
-pub mod Codes
 pub mod IntentLaws
+pub mod Range
+pub mod RangeLaws
+pub mod Codes
+pub mod CodesLaws

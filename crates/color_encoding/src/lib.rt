@@ -4,7 +4,9 @@ ghost use mathlib.Core.Path.{_≡_};
 ghost use Rattle.color_encoding.specs.Coordinates.{whiteXy, primariesXy};
 ghost use Rattle.color_encoding.specs.Intent.{intentNumber, intentName};
 ghost use Rattle.color_encoding.specs.Codes.{intentFrom, whitePointFrom, primariesFrom, transferFunctionFrom};
-ghost use Rattle.color_encoding.specs.Codes.{knownEncoding, grayFrom, rgbFrom, xybFrom};
+ghost use Rattle.color_encoding.specs.Codes.{knownIntent, knownWhitePoint, knownPrimaries, knownTransferFunction, knownEncoding};
+ghost use Rattle.color_encoding.specs.Codes.{whitePointNumber, primariesNumber, transferFunctionNumber};
+ghost use Rattle.color_encoding.specs.Codes.{grayFrom, rgbFrom, xybFrom};
 
 pub enum RenderingIntent {
     Perceptual,
@@ -77,6 +79,9 @@ pub struct PrimariesXy {
     pub by: f32,
 }
 
+// The refusal of a number that stands for nothing.
+pub const UNKNOWN: u32 = 43;
+
 // What a number stands for.
 pub enum IntentCode {
     Known(RenderingIntent),
@@ -129,7 +134,7 @@ impl RenderingIntent {
     }
 
     pub fn from_number(n: u32) -> IntentCode
-        ensures { λ r. ⌜ r ≡ intentFrom n ⌝ }
+        ensures { λ r. ⌜ knownIntent r ≡ intentFrom n ⌝ }
     {
         match n {
             0 => IntentCode::Known(RenderingIntent::Perceptual),
@@ -162,9 +167,20 @@ impl JxlWhitePoint {
         }
     }
 
+    pub fn number(self) -> u32
+        ensures { λ r. ⌜ r ≡ whitePointNumber self ⌝ }
+    {
+        match self {
+            JxlWhitePoint::D65 => 0,
+            JxlWhitePoint::E => 1,
+            JxlWhitePoint::DCI => 2,
+            JxlWhitePoint::Chromaticity { wx: _, wy: _ } => 3,
+        }
+    }
+
     // The coordinates are read only for a white point of one's own.
     pub fn from_number(kind: u32, wx: f32, wy: f32) -> WhitePointCode
-        ensures { λ r. ⌜ r ≡ whitePointFrom kind wx wy ⌝ }
+        ensures { λ r. ⌜ knownWhitePoint r ≡ whitePointFrom kind wx wy ⌝ }
     {
         match kind {
             0 => WhitePointCode::Known(JxlWhitePoint::D65),
@@ -230,6 +246,24 @@ impl JxlPrimaries {
         }
     }
 
+    pub fn number(self) -> u32
+        ensures { λ r. ⌜ r ≡ primariesNumber self ⌝ }
+    {
+        match self {
+            JxlPrimaries::SRGB => 0,
+            JxlPrimaries::BT2100 => 1,
+            JxlPrimaries::P3 => 2,
+            JxlPrimaries::Chromaticities {
+                rx: _,
+                ry: _,
+                gx: _,
+                gy: _,
+                bx: _,
+                by: _,
+            } => 3,
+        }
+    }
+
     // The coordinates are read only for primaries of one's own.
     pub fn from_number(
         kind: u32,
@@ -240,7 +274,7 @@ impl JxlPrimaries {
         bx: f32,
         by: f32,
     ) -> PrimariesCode
-        ensures { λ r. ⌜ r ≡ primariesFrom kind rx ry gx gy bx by ⌝ }
+        ensures { λ r. ⌜ knownPrimaries r ≡ primariesFrom kind rx ry gx gy bx by ⌝ }
     {
         match kind {
             0 => PrimariesCode::Known(JxlPrimaries::SRGB),
@@ -260,9 +294,23 @@ impl JxlPrimaries {
 }
 
 impl JxlTransferFunction {
+    pub fn number(self) -> u32
+        ensures { λ r. ⌜ r ≡ transferFunctionNumber self ⌝ }
+    {
+        match self {
+            JxlTransferFunction::BT709 => 0,
+            JxlTransferFunction::Linear => 1,
+            JxlTransferFunction::SRGB => 2,
+            JxlTransferFunction::PQ => 3,
+            JxlTransferFunction::DCI => 4,
+            JxlTransferFunction::HLG => 5,
+            JxlTransferFunction::Gamma(_) => 6,
+        }
+    }
+
     // The gamma is read only for the last number.
     pub fn from_number(curve: u32, gamma: f32) -> TransferFunctionCode
-        ensures { λ r. ⌜ r ≡ transferFunctionFrom curve gamma ⌝ }
+        ensures { λ r. ⌜ knownTransferFunction r ≡ transferFunctionFrom curve gamma ⌝ }
     {
         match curve {
             0 => TransferFunctionCode::Known(JxlTransferFunction::BT709),
@@ -283,7 +331,7 @@ impl JxlColorEncoding {
         transfer: TransferFunctionCode,
         intent: IntentCode,
     ) -> EncodingCode
-        ensures { λ r. ⌜ knownEncoding r ≡ grayFrom white transfer intent ⌝ }
+        ensures { λ r. ⌜ knownEncoding r ≡ grayFrom (knownWhitePoint white) (knownTransferFunction transfer) (knownIntent intent) ⌝ }
     {
         let WhitePointCode::Known(white_point) = white else {
             return EncodingCode::Unknown;
@@ -307,7 +355,7 @@ impl JxlColorEncoding {
         transfer: TransferFunctionCode,
         intent: IntentCode,
     ) -> EncodingCode
-        ensures { λ r. ⌜ knownEncoding r ≡ rgbFrom white primary transfer intent ⌝ }
+        ensures { λ r. ⌜ knownEncoding r ≡ rgbFrom (knownWhitePoint white) (knownPrimaries primary) (knownTransferFunction transfer) (knownIntent intent) ⌝ }
     {
         let WhitePointCode::Known(white_point) = white else {
             return EncodingCode::Unknown;
@@ -330,7 +378,7 @@ impl JxlColorEncoding {
     }
 
     pub fn xyb_from_code(intent: IntentCode) -> EncodingCode
-        ensures { λ r. ⌜ knownEncoding r ≡ xybFrom intent ⌝ }
+        ensures { λ r. ⌜ knownEncoding r ≡ xybFrom (knownIntent intent) ⌝ }
     {
         let IntentCode::Known(rendering_intent) = intent else {
             return EncodingCode::Unknown;

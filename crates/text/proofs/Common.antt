@@ -12,20 +12,20 @@ use Rattle.color_encoding.specs.declared.JxlPrimaries.{JxlPrimaries}
 use Rattle.color_encoding.specs.declared.JxlPrimaries.the-variants as P
 use Rattle.color_encoding.specs.declared.JxlTransferFunction.{JxlTransferFunction}
 use Rattle.color_encoding.specs.declared.JxlTransferFunction.the-variants as F
-use Rattle.text.specs.Description.{are, rgbText, rgbDescription, sRGB, displayP3, rec2100PQ, rec2100HLG}
+use Rattle.text.specs.Description.{matches, rgbText, rgbDescription, sRGB, displayP3, rec2100PQ, rec2100HLG}
 
 module _ (w : JxlWhitePoint) (p : JxlPrimaries) (t : JxlTransferFunction) (i : RenderingIntent) where
   abbrev pub one : Bool
-  one = are w p t i W.D65 P.SRGB F.SRGB Perceptual
+  one = matches w p t i W.D65 P.SRGB F.SRGB Perceptual
 
   abbrev pub two : Bool
-  two = are w p t i W.D65 P.P3 F.SRGB Perceptual
+  two = matches w p t i W.D65 P.P3 F.SRGB Perceptual
 
   abbrev pub three : Bool
-  three = are w p t i W.D65 P.BT2100 F.PQ Relative
+  three = matches w p t i W.D65 P.BT2100 F.PQ Relative
 
   abbrev pub four : Bool
-  four = are w p t i W.D65 P.BT2100 F.HLG Relative
+  four = matches w p t i W.D65 P.BT2100 F.HLG Relative
 
   abbrev pub from-two : List ℕ
   from-two = cond two displayP3 (cond three rec2100PQ (cond four rec2100HLG (rgbText w p t i)))

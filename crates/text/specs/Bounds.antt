@@ -4,23 +4,14 @@ use Prim.Native.Nat.{_≤_}
 use native.Mathlib.Nat.{le-trans}
 use lib.Dec.{lit≤}
 use lib.ListN.{length}
-use Rattle.color_encoding.specs.declared.RenderingIntent.{RenderingIntent}
-use Rattle.color_encoding.specs.declared.JxlWhitePoint.{JxlWhitePoint}
-use Rattle.color_encoding.specs.declared.JxlTransferFunction.{JxlTransferFunction}
 use Rattle.color_encoding.specs.declared.JxlColorEncoding.{JxlColorEncoding}
 use Rattle.color_encoding.specs.declared.JxlColorEncoding.the-variants.{RgbColorSpace, GrayscaleColorSpace, XYB}
 use Rattle.buffer.specs.Ascii.{Ascii}
 use Rattle.text.specs.Description.{description}
-use Rattle.text.specs.Held.{HeldWhite, HeldTransfer, HeldEncoding, WhiteInRange}
+use Rattle.text.specs.Held.{HeldEncoding, WhiteInRange}
 use Rattle.text.specs.BoundsLaws.{length-white, length-white-in-range, length-rgb, length-gray-text, length-xyb-text, some-rgb, some-gray, some-xyb, ascii-rgb, ascii-gray, ascii-xyb}
 
--- a gray description has at most 155 bytes
-pub length-gray : (w : JxlWhitePoint) (t : JxlTransferFunction) (i : RenderingIntent) → HeldWhite w → HeldTransfer t
-    → length (description (GrayscaleColorSpace w t i)) ≤ 155
-unfolding description
-length-gray w t i h f = length-gray-text w t i h f
-
--- any description at most 449
+-- a description has at most 449 bytes
 pub length-description : (e : JxlColorEncoding) → HeldEncoding e → length (description e) ≤ 449
 unfolding description
 length-description (RgbColorSpace w p t i) h = length-rgb w p t i 97 (length-white w (h .0)) (h .1 .0) (h .1 .1)

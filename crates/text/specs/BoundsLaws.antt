@@ -17,14 +17,18 @@ use Rattle.color_encoding.specs.declared.JxlPrimaries.the-variants as P
 use Rattle.color_encoding.specs.declared.JxlTransferFunction.{JxlTransferFunction}
 use Rattle.color_encoding.specs.declared.JxlTransferFunction.the-variants as F
 use Rattle.color_encoding.specs.Intent.{intentName}
+use Rattle.color_encoding.specs.IntentLaws.{length-intentName}
+use Rattle.color_encoding.specs.Coordinates.{whiteXy}
+use Rattle.color_encoding.specs.RangeLaws.{within}
 use Rattle.buffer.specs.All.{none, more}
 use Rattle.buffer.specs.Ascii.{Ascii}
 use Rattle.decimal.specs.AsciiLaws.{append, written, ascii-seven}
 use Rattle.decimal.specs.Seven.{sevenDecimals}
 use Rattle.decimal.specs.SevenLaws.{length-seven, length-unit, length-positive-unit}
-use Rattle.text.specs.Description.{comma, semicolon, underscore, pair, whiteName, primariesName, transferName, are, rgbText, grayText, xybText, rgbDescription, sRGB, displayP3, rec2100PQ, rec2100HLG}
+use Rattle.text.specs.Description.{comma, semicolon, underscore, pair, whiteName, primariesName, transferName, matches, rgbText, grayText, xybText, rgbDescription, sRGB, displayP3, rec2100PQ, rec2100HLG}
 use native.Mathlib.Nat.{le-trans}
-use Rattle.text.specs.Held.{Short, Held, HeldWhite, HeldPrimaries, HeldTransfer, InRange}
+use Rattle.text.specs.Held.{Held, HeldWhite, HeldPrimaries, HeldTransfer, InRange}
+use Rattle.text.specs.Written.{Short}
 
 -- ---- the parts
 
@@ -32,7 +36,7 @@ length-pair : (c : ℕ) (x y : Float) (m n : ℕ) → length (sevenDecimals x) �
 unfolding pair
 length-pair c x y m n h g = simp length-append (omega arith)
 
-pub held-pair : (c : ℕ) (x y : Float) → Held x × Held y → length (pair (c ∷ []) x y) ≤ 97
+held-pair : (c : ℕ) (x y : Float) → Held x × Held y → length (pair (c ∷ []) x y) ≤ 97
 held-pair c x y h = length-pair c x y 48 48 (length-seven x (h .0)) (length-seven y (h .1))
 
 pub length-white : (w : JxlWhitePoint) → HeldWhite w → length (whiteName w) ≤ 97
@@ -47,12 +51,14 @@ unfolding whiteName
 length-white-in-range W.D65 h = lit≤ tt
 length-white-in-range W.E h = lit≤ tt
 length-white-in-range W.DCI h = lit≤ tt
-length-white-in-range (W.Chromaticity wx wy) h = length-pair 59 wx wy 10 9 (length-unit wx (h .0 .0) (h .0 .1)) (length-positive-unit wy (h .1 .0) (h .1 .1))
+length-white-in-range (W.Chromaticity wx wy) h =
+    let in-range = within (whiteXy (W.Chromaticity wx wy)) h in
+    length-pair 59 wx wy 10 9 (length-unit wx (in-range .x-from) (in-range .x-to)) (length-positive-unit wy (in-range .y-above) (in-range .y-to))
 
 three-pairs : (a b c : List ℕ) → length a ≤ 97 → length b ≤ 97 → length c ≤ 97 → length (a ++ semicolon ++ b ++ semicolon ++ c) ≤ 293
 three-pairs a b c h g f = simp length-append (omega arith)
 
-pub length-primaries : (p : JxlPrimaries) → HeldPrimaries p → length (primariesName p) ≤ 293
+length-primaries : (p : JxlPrimaries) → HeldPrimaries p → length (primariesName p) ≤ 293
 unfolding primariesName
 length-primaries P.SRGB h = lit≤ tt
 length-primaries P.BT2100 h = lit≤ tt
@@ -63,7 +69,7 @@ length-primaries (P.Chromaticities rx ry gx gy bx by) h =
 length-gamma : (l : List ℕ) → length l ≤ 48 → length {A = ℕ} (103 ∷ l) ≤ 49
 length-gamma l h = omega arith
 
-pub length-transfer : (t : JxlTransferFunction) → HeldTransfer t → length (transferName t) ≤ 49
+length-transfer : (t : JxlTransferFunction) → HeldTransfer t → length (transferName t) ≤ 49
 unfolding transferName
 length-transfer F.BT709 h = lit≤ tt
 length-transfer F.Linear h = lit≤ tt
@@ -72,12 +78,6 @@ length-transfer F.PQ h = lit≤ tt
 length-transfer F.DCI h = lit≤ tt
 length-transfer F.HLG h = lit≤ tt
 length-transfer (F.Gamma g) h = length-gamma (sevenDecimals g) (length-seven g h)
-
-pub length-intent : (i : RenderingIntent) → length (intentName i) ≡ 3
-length-intent Perceptual = refl
-length-intent Relative = refl
-length-intent Saturation = refl
-length-intent Absolute = refl
 
 five : (a w p i t : List ℕ) (n : ℕ) → length a ≡ 4 → length w ≤ n → length p ≤ 293 → length i ≡ 3 → length t ≤ 49
     → length (a ++ w ++ underscore ++ p ++ underscore ++ i ++ underscore ++ t) ≤ n + 352
@@ -102,14 +102,14 @@ module _ (Q : List ℕ → Type 0) (w : JxlWhitePoint) (p : JxlPrimaries) (t : J
   of-rgb : Q sRGB → Q displayP3 → Q rec2100PQ → Q rec2100HLG → Q (rgbText w p t i) → Q (rgbDescription w p t i)
   unfolding rgbDescription
   of-rgb hv hw hx hy hz =
-      one-of hv hw hx hy (rgbText w p t i) hz (are w p t i W.D65 P.SRGB F.SRGB Perceptual) (are w p t i W.D65 P.P3 F.SRGB Perceptual)
-      (are w p t i W.D65 P.BT2100 F.PQ Relative) (are w p t i W.D65 P.BT2100 F.HLG Relative)
+      one-of hv hw hx hy (rgbText w p t i) hz (matches w p t i W.D65 P.SRGB F.SRGB Perceptual) (matches w p t i W.D65 P.P3 F.SRGB Perceptual)
+      (matches w p t i W.D65 P.BT2100 F.PQ Relative) (matches w p t i W.D65 P.BT2100 F.HLG Relative)
 
 pub length-rgb-text : (w : JxlWhitePoint) (p : JxlPrimaries) (t : JxlTransferFunction) (i : RenderingIntent) (n : ℕ)
     → length (whiteName w) ≤ n → HeldPrimaries p → HeldTransfer t → length (rgbText w p t i) ≤ n + 352
 unfolding rgbText
 length-rgb-text w p t i n h g f =
-    five (82 ∷ 71 ∷ 66 ∷ 95 ∷ []) (whiteName w) (primariesName p) (intentName i) (transferName t) n refl h (length-primaries p g) (length-intent i) (length-transfer t f)
+    five (82 ∷ 71 ∷ 66 ∷ 95 ∷ []) (whiteName w) (primariesName p) (intentName i) (transferName t) n refl h (length-primaries p g) (length-intentName i) (length-transfer t f)
 
 pub length-rgb : (w : JxlWhitePoint) (p : JxlPrimaries) (t : JxlTransferFunction) (i : RenderingIntent) (n : ℕ)
     → length (whiteName w) ≤ n → HeldPrimaries p → HeldTransfer t → length (rgbDescription w p t i) ≤ n + 352
@@ -122,11 +122,11 @@ length-rgb w p t i n h g f =
 
 pub length-gray-text : (w : JxlWhitePoint) (t : JxlTransferFunction) (i : RenderingIntent) → HeldWhite w → HeldTransfer t → length (grayText w t i) ≤ 155
 unfolding grayText
-length-gray-text w t i h f = four (71 ∷ 114 ∷ 97 ∷ 95 ∷ []) (whiteName w) (intentName i) (transferName t) refl (length-white w h) (length-intent i) (length-transfer t f)
+length-gray-text w t i h f = four (71 ∷ 114 ∷ 97 ∷ 95 ∷ []) (whiteName w) (intentName i) (transferName t) refl (length-white w h) (length-intentName i) (length-transfer t f)
 
 pub length-xyb-text : (i : RenderingIntent) → length (xybText i) ≤ 7
 unfolding xybText
-length-xyb-text i = two (88 ∷ 89 ∷ 66 ∷ 95 ∷ []) (intentName i) refl (length-intent i)
+length-xyb-text i = two (88 ∷ 89 ∷ 66 ∷ 95 ∷ []) (intentName i) refl (length-intentName i)
 
 -- ---- short texts
 

@@ -13,6 +13,7 @@ use Rattle.color_encoding.specs.declared.JxlTransferFunction.{JxlTransferFuncti
 use Rattle.color_encoding.specs.declared.JxlTransferFunction.the-variants as F
 use Rattle.color_encoding.specs.declared.JxlColorEncoding.{JxlColorEncoding}
 use Rattle.color_encoding.specs.declared.JxlColorEncoding.the-variants.{RgbColorSpace, GrayscaleColorSpace, XYB}
+use Rattle.color_encoding.specs.Codes.{whitePointNumber, primariesNumber, transferFunctionNumber}
 use Rattle.color_encoding.specs.Intent.{intentNumber, intentName}
 use lib.Dec.{eqb}
 use lib.Ieee.{Float}
@@ -68,33 +69,12 @@ grayText w t i = ascii "Gra_" ++ whiteName w ++ underscore ++ intentName i ++ un
 unfoldable pub xybText : RenderingIntent → List ℕ
 xybText i = ascii "XYB_" ++ intentName i
 
--- ---- the four common names. Variants are told apart by their places in the Rust's enums.
+-- ---- the four common names
 
-abbrev pub whiteNumber : JxlWhitePoint → ℕ
-whiteNumber W.D65 = 0
-whiteNumber W.E = 1
-whiteNumber W.DCI = 2
-whiteNumber (W.Chromaticity wx wy) = 3
-
-abbrev pub primariesNumber : JxlPrimaries → ℕ
-primariesNumber P.SRGB = 0
-primariesNumber P.BT2100 = 1
-primariesNumber P.P3 = 2
-primariesNumber (P.Chromaticities rx ry gx gy bx by) = 3
-
-abbrev pub transferNumber : JxlTransferFunction → ℕ
-transferNumber F.BT709 = 0
-transferNumber F.Linear = 1
-transferNumber F.SRGB = 2
-transferNumber F.PQ = 3
-transferNumber F.DCI = 4
-transferNumber F.HLG = 5
-transferNumber (F.Gamma g) = 6
-
--- the four are those of a common name
-abbrev pub are : JxlWhitePoint → JxlPrimaries → JxlTransferFunction → RenderingIntent → JxlWhitePoint → JxlPrimaries → JxlTransferFunction → RenderingIntent → Bool
-are w p t i w′ p′ t′ i′ =
-    eqb (whiteNumber w) (whiteNumber w′) && eqb (primariesNumber p) (primariesNumber p′) && eqb (transferNumber t) (transferNumber t′)
+-- the four are the variants that a pattern of the Rust's `match` names; variants are told apart by their numbers
+abbrev pub matches : JxlWhitePoint → JxlPrimaries → JxlTransferFunction → RenderingIntent → JxlWhitePoint → JxlPrimaries → JxlTransferFunction → RenderingIntent → Bool
+matches w p t i w′ p′ t′ i′ =
+    eqb (whitePointNumber w) (whitePointNumber w′) && eqb (primariesNumber p) (primariesNumber p′) && eqb (transferFunctionNumber t) (transferFunctionNumber t′)
     && eqb (intentNumber i) (intentNumber i′)
 
 abbrev pub sRGB : List ℕ
@@ -111,10 +91,10 @@ rec2100HLG = ascii "Rec2100HLG"
 
 unfoldable pub rgbDescription : JxlWhitePoint → JxlPrimaries → JxlTransferFunction → RenderingIntent → List ℕ
 rgbDescription w p t i =
-    cond (are w p t i W.D65 P.SRGB F.SRGB Perceptual) sRGB
-    (cond (are w p t i W.D65 P.P3 F.SRGB Perceptual) displayP3
-    (cond (are w p t i W.D65 P.BT2100 F.PQ Relative) rec2100PQ
-    (cond (are w p t i W.D65 P.BT2100 F.HLG Relative) rec2100HLG
+    cond (matches w p t i W.D65 P.SRGB F.SRGB Perceptual) sRGB
+    (cond (matches w p t i W.D65 P.P3 F.SRGB Perceptual) displayP3
+    (cond (matches w p t i W.D65 P.BT2100 F.PQ Relative) rec2100PQ
+    (cond (matches w p t i W.D65 P.BT2100 F.HLG Relative) rec2100HLG
     (rgbText w p t i))))
 
 unfoldable pub description : JxlColorEncoding → List ℕ

@@ -2,11 +2,8 @@
 -- Assumes nothing.
 use mathlib.Core.Path.{_≡_}
 use mathlib.Core.Bool.{true}
-use mathlib.Core.List.{List}
-use Prim.Native.Nat.{ℕ, _≤_}
 use lib.Dec.{T}
-use lib.ListN.{length}
-use lib.Ieee.{Float, binary32, fits, lt, le}
+use lib.Ieee.{Float, binary32, fits}
 use Rattle.color_encoding.specs.declared.JxlWhitePoint.{JxlWhitePoint}
 use Rattle.color_encoding.specs.declared.JxlWhitePoint.the-variants as W
 use Rattle.color_encoding.specs.declared.JxlPrimaries.{JxlPrimaries}
@@ -15,7 +12,8 @@ use Rattle.color_encoding.specs.declared.JxlTransferFunction.{JxlTransferFuncti
 use Rattle.color_encoding.specs.declared.JxlTransferFunction.the-variants as F
 use Rattle.color_encoding.specs.declared.JxlColorEncoding.{JxlColorEncoding}
 use Rattle.color_encoding.specs.declared.JxlColorEncoding.the-variants.{RgbColorSpace, GrayscaleColorSpace, XYB}
-use Rattle.decimal.specs.SevenLaws.{nought, unit}
+use Rattle.color_encoding.specs.Coordinates.{whiteXy}
+use Rattle.color_encoding.specs.Range.{inRange}
 
 -- a float that binary32 holds
 abbrev pub Held : Float → Type 0
@@ -47,20 +45,12 @@ HeldEncoding (RgbColorSpace w p t i) = HeldWhite w × (HeldPrimaries p × HeldTr
 HeldEncoding (GrayscaleColorSpace w t i) = HeldWhite w × HeldTransfer t
 HeldEncoding (XYB i) = Unit {0}
 
--- the range of `adapt_to_xyz_d50`: wx from 0 to 1, wy above 0 and up to 1. A wx of -0 is in it.
+-- the coordinates of the white are in the range of `adapt_to_xyz_d50`
 abbrev pub InRange : JxlWhitePoint → Type 0
-InRange W.D65 = Unit {0}
-InRange W.E = Unit {0}
-InRange W.DCI = Unit {0}
-InRange (W.Chromaticity wx wy) = ((le nought wx ≡ true) × (le wx unit ≡ true)) × ((lt nought wy ≡ true) × (le wy unit ≡ true))
+InRange w = inRange (whiteXy w) ≡ true
 
 -- the white of an RGB encoding is in range; of gray and XYB nothing is asked
 abbrev pub WhiteInRange : JxlColorEncoding → Type 0
 WhiteInRange (RgbColorSpace w p t i) = InRange w
 WhiteInRange (GrayscaleColorSpace w t i) = Unit {0}
 WhiteInRange (XYB i) = Unit {0}
-
--- a text of at most 449 letters, and of at most 372 where what is asked holds
-pub record Short (Asked : Type 0) (text : List ℕ) : Type 0 where
-  pub any : length text ≤ 449
-  pub accepted : Asked → length text ≤ 372

@@ -1,4 +1,5 @@
 pub mod Description
 pub mod Held
+pub mod Written
 pub mod Bounds
 pub mod BoundsLaws

@@ -9,16 +9,15 @@ use color_encoding::JxlWhitePoint;
 use color_encoding::RenderingIntent;
 use decimal::put_seven_decimals;
 ghost use mathlib.Core.Path.{_≡_};
-ghost use mathlib.Core.Bool.{_&&_};
-ghost use mathlib.Core.List.{_++_, _∷_, []};
-ghost use Prim.Native.Nat.{_+_, _-_, _≤_};
-ghost use lib.Dec.{eqb};
-ghost use lib.ListN.{length, replicate};
-ghost use Rattle.color_encoding.specs.Intent.{intentNumber, intentName};
+ghost use mathlib.Core.List.{_∷_, []};
+ghost use Prim.Native.Nat.{_+_, _≤_};
+ghost use lib.ListN.{length};
+ghost use Rattle.color_encoding.specs.Intent.{intentName};
 ghost use Rattle.buffer.specs.Puts.{Puts};
 ghost use Rattle.decimal.specs.Seven.{sevenDecimals};
-ghost use Rattle.text.specs.Held.{Held, HeldWhite, HeldPrimaries, HeldTransfer, InRange, WhiteInRange, Short};
-ghost use Rattle.text.specs.Description.{pair, whiteName, primariesName, transferName, whiteNumber, primariesNumber, transferNumber, rgbText, grayText, xybText, rgbDescription, description};
+ghost use Rattle.text.specs.Held.{Held, HeldWhite, HeldPrimaries, HeldTransfer, InRange, WhiteInRange};
+ghost use Rattle.text.specs.Description.{pair, whiteName, primariesName, transferName, matches, rgbText, grayText, xybText, rgbDescription, description};
+ghost use Rattle.text.specs.Written.{PutsPart, PutsDescription, Describes};
 
 // A description: the first `len` bytes; zeros after it.
 pub struct Text {
@@ -29,7 +28,7 @@ pub struct Text {
 // Two numbers with a separator between them.
 fn put_pair(out: &mut [u8], at: usize, x: f32, separator: u8, y: f32) -> usize
     requires { ⌜ at + 97 ≤ length (now out) ⌝ }
-    ensures { λ r. ⌜ Puts (now (out .entry)) at (pair (separator ∷ []) x y) r (now (out .exit)) × (r ≤ at + 97) × (Held x × Held y) ⌝ }
+    ensures { λ r. ⌜ PutsPart 97 (Held x × Held y) (now (out .entry)) at (pair (separator ∷ []) x y) r (now (out .exit)) ⌝ }
 {
     let i = put_seven_decimals(&mut *out, at, x);
     let j = put_byte(&mut *out, i, separator);
@@ -38,7 +37,7 @@ fn put_pair(out: &mut [u8], at: usize, x: f32, separator: u8, y: f32) -> usize
 
 fn put_white(out: &mut [u8], at: usize, white: JxlWhitePoint) -> usize
     requires { ⌜ at + 97 ≤ length (now out) ⌝ }
-    ensures { λ r. ⌜ Puts (now (out .entry)) at (whiteName white) r (now (out .exit)) × (r ≤ at + 97) × HeldWhite white ⌝ }
+    ensures { λ r. ⌜ PutsPart 97 (HeldWhite white) (now (out .entry)) at (whiteName white) r (now (out .exit)) ⌝ }
 {
     match white {
         JxlWhitePoint::D65 => put_bytes(out, at, b"D65"),
@@ -50,7 +49,7 @@ fn put_white(out: &mut [u8], at: usize, white: JxlWhitePoint) -> usize
 
 fn put_primaries(out: &mut [u8], at: usize, primaries: JxlPrimaries) -> usize
     requires { ⌜ at + 293 ≤ length (now out) ⌝ }
-    ensures { λ r. ⌜ Puts (now (out .entry)) at (primariesName primaries) r (now (out .exit)) × (r ≤ at + 293) × HeldPrimaries primaries ⌝ }
+    ensures { λ r. ⌜ PutsPart 293 (HeldPrimaries primaries) (now (out .entry)) at (primariesName primaries) r (now (out .exit)) ⌝ }
 {
     match primaries {
         JxlPrimaries::SRGB => put_bytes(out, at, b"SRG"),
@@ -75,7 +74,7 @@ fn put_primaries(out: &mut [u8], at: usize, primaries: JxlPrimaries) -> usize
 
 fn put_gamma(out: &mut [u8], at: usize, g: f32) -> usize
     requires { ⌜ at + 49 ≤ length (now out) ⌝ }
-    ensures { λ r. ⌜ Puts (now (out .entry)) at (103 ∷ sevenDecimals g) r (now (out .exit)) × (r ≤ at + 49) × Held g ⌝ }
+    ensures { λ r. ⌜ PutsPart 49 (Held g) (now (out .entry)) at (103 ∷ sevenDecimals g) r (now (out .exit)) ⌝ }
 {
     let i = put_byte(&mut *out, at, b'g');
     put_seven_decimals(&mut *out, i, g)
@@ -83,7 +82,7 @@ fn put_gamma(out: &mut [u8], at: usize, g: f32) -> usize
 
 fn put_transfer(out: &mut [u8], at: usize, transfer: JxlTransferFunction) -> usize
     requires { ⌜ at + 49 ≤ length (now out) ⌝ }
-    ensures { λ r. ⌜ Puts (now (out .entry)) at (transferName transfer) r (now (out .exit)) × (r ≤ at + 49) × HeldTransfer transfer ⌝ }
+    ensures { λ r. ⌜ PutsPart 49 (HeldTransfer transfer) (now (out .entry)) at (transferName transfer) r (now (out .exit)) ⌝ }
 {
     match transfer {
         JxlTransferFunction::BT709 => put_bytes(out, at, b"709"),
@@ -98,14 +97,10 @@ fn put_transfer(out: &mut [u8], at: usize, transfer: JxlTransferFunction) -> usi
 
 fn put_intent(out: &mut [u8], at: usize, intent: RenderingIntent) -> usize
     requires { ⌜ at + 3 ≤ length (now out) ⌝ }
-    ensures { λ r. ⌜ Puts (now (out .entry)) at (intentName intent) r (now (out .exit)) × (r ≤ at + 3) ⌝ }
+    ensures { λ r. ⌜ Puts (now (out .entry)) at 3 (intentName intent) r (now (out .exit)) ⌝ }
 {
-    match intent {
-        RenderingIntent::Perceptual => put_bytes(out, at, b"Per"),
-        RenderingIntent::Relative => put_bytes(out, at, b"Rel"),
-        RenderingIntent::Saturation => put_bytes(out, at, b"Sat"),
-        RenderingIntent::Absolute => put_bytes(out, at, b"Abs"),
-    }
+    let name = intent.short_name();
+    put_bytes(out, at, &name)
 }
 
 // "RGB_", white, primaries, intent, curve.
@@ -117,7 +112,7 @@ fn put_rgb_text(
     intent: RenderingIntent,
 ) -> usize
     requires { ⌜ 449 ≤ length (now out) ⌝ }
-    ensures { λ r. ⌜ Puts (now (out .entry)) 0 (rgbText white primaries transfer intent) r (now (out .exit)) × Short (InRange white) (rgbText white primaries transfer intent) ⌝ }
+    ensures { λ r. ⌜ PutsDescription (InRange white) (rgbText white primaries transfer intent) (now (out .entry)) r (now (out .exit)) ⌝ }
 {
     let white_at = put_bytes(&mut *out, 0, b"RGB_");
     let white_end = put_white(&mut *out, white_at, white);
@@ -137,7 +132,7 @@ fn put_gray(
     intent: RenderingIntent,
 ) -> usize
     requires { ⌜ 449 ≤ length (now out) ⌝ }
-    ensures { λ r. ⌜ Puts (now (out .entry)) 0 (grayText white transfer intent) r (now (out .exit)) × (length (grayText white transfer intent) ≤ 155) ⌝ }
+    ensures { λ r. ⌜ PutsDescription (Unit {0}) (grayText white transfer intent) (now (out .entry)) r (now (out .exit)) ⌝ }
 {
     let white_at = put_bytes(&mut *out, 0, b"Gra_");
     let white_end = put_white(&mut *out, white_at, white);
@@ -150,89 +145,35 @@ fn put_gray(
 // "XYB_", intent.
 fn put_xyb(out: &mut [u8], intent: RenderingIntent) -> usize
     requires { ⌜ 449 ≤ length (now out) ⌝ }
-    ensures { λ r. ⌜ Puts (now (out .entry)) 0 (xybText intent) r (now (out .exit)) × (length (xybText intent) ≤ 7) ⌝ }
+    ensures { λ r. ⌜ PutsDescription (Unit {0}) (xybText intent) (now (out .entry)) r (now (out .exit)) ⌝ }
 {
     let intent_at = put_bytes(&mut *out, 0, b"XYB_");
     put_intent(&mut *out, intent_at, intent)
 }
 
-fn white_number(white: JxlWhitePoint) -> u64
-    ensures { λ r. ⌜ r ≡ whiteNumber white ⌝ }
-{
-    match white {
-        JxlWhitePoint::D65 => 0,
-        JxlWhitePoint::E => 1,
-        JxlWhitePoint::DCI => 2,
-        JxlWhitePoint::Chromaticity { wx: _, wy: _ } => 3,
-    }
-}
-
-fn primaries_number(primaries: JxlPrimaries) -> u64
-    ensures { λ r. ⌜ r ≡ primariesNumber primaries ⌝ }
-{
-    match primaries {
-        JxlPrimaries::SRGB => 0,
-        JxlPrimaries::BT2100 => 1,
-        JxlPrimaries::P3 => 2,
-        JxlPrimaries::Chromaticities {
-            rx: _,
-            ry: _,
-            gx: _,
-            gy: _,
-            bx: _,
-            by: _,
-        } => 3,
-    }
-}
-
-fn transfer_number(transfer: JxlTransferFunction) -> u64
-    ensures { λ r. ⌜ r ≡ transferNumber transfer ⌝ }
-{
-    match transfer {
-        JxlTransferFunction::BT709 => 0,
-        JxlTransferFunction::Linear => 1,
-        JxlTransferFunction::SRGB => 2,
-        JxlTransferFunction::PQ => 3,
-        JxlTransferFunction::DCI => 4,
-        JxlTransferFunction::HLG => 5,
-        JxlTransferFunction::Gamma(_) => 6,
-    }
-}
-
-fn intent_number(intent: RenderingIntent) -> u64
-    ensures { λ r. ⌜ r ≡ intentNumber intent ⌝ }
-{
-    match intent {
-        RenderingIntent::Perceptual => 0,
-        RenderingIntent::Relative => 1,
-        RenderingIntent::Saturation => 2,
-        RenderingIntent::Absolute => 3,
-    }
-}
-
-// Four numbers are these four.
-fn are(
-    w: u64,
-    p: u64,
-    t: u64,
-    i: u64,
-    white: u64,
-    primaries: u64,
-    transfer: u64,
-    intent: u64,
+// Whether the four are these variants, as a pattern of the Rust's `match` names them.
+fn matches(
+    white: JxlWhitePoint,
+    primaries: JxlPrimaries,
+    transfer: JxlTransferFunction,
+    intent: RenderingIntent,
+    of_white: JxlWhitePoint,
+    of_primaries: JxlPrimaries,
+    of_transfer: JxlTransferFunction,
+    of_intent: RenderingIntent,
 ) -> bool
-    ensures { λ r. ⌜ r ≡ (eqb w white && eqb p primaries && eqb t transfer && eqb i intent) ⌝ }
+    ensures { λ r. ⌜ r ≡ matches white primaries transfer intent «of_white» «of_primaries» «of_transfer» «of_intent» ⌝ }
 {
-    if w != white {
+    if white.number() != of_white.number() {
         return false;
     }
-    if p != primaries {
+    if primaries.number() != of_primaries.number() {
         return false;
     }
-    if t != transfer {
+    if transfer.number() != of_transfer.number() {
         return false;
     }
-    i == intent
+    intent.number() == of_intent.number()
 }
 
 // A common name, or the text of an RGB encoding.
@@ -244,22 +185,54 @@ fn put_rgb(
     intent: RenderingIntent,
 ) -> usize
     requires { ⌜ 449 ≤ length (now out) ⌝ }
-    ensures { λ r. ⌜ Puts (now (out .entry)) 0 (rgbDescription white primaries transfer intent) r (now (out .exit)) × Short (InRange white) (rgbDescription white primaries transfer intent) ⌝ }
+    ensures { λ r. ⌜ PutsDescription (InRange white) (rgbDescription white primaries transfer intent) (now (out .entry)) r (now (out .exit)) ⌝ }
 {
-    let w = white_number(white);
-    let p = primaries_number(primaries);
-    let t = transfer_number(transfer);
-    let i = intent_number(intent);
-    if are(w, p, t, i, 0, 0, 2, 0) {
+    if matches(
+        white,
+        primaries,
+        transfer,
+        intent,
+        JxlWhitePoint::D65,
+        JxlPrimaries::SRGB,
+        JxlTransferFunction::SRGB,
+        RenderingIntent::Perceptual,
+    ) {
         return put_bytes(out, 0, b"sRGB");
     }
-    if are(w, p, t, i, 0, 2, 2, 0) {
+    if matches(
+        white,
+        primaries,
+        transfer,
+        intent,
+        JxlWhitePoint::D65,
+        JxlPrimaries::P3,
+        JxlTransferFunction::SRGB,
+        RenderingIntent::Perceptual,
+    ) {
         return put_bytes(out, 0, b"DisplayP3");
     }
-    if are(w, p, t, i, 0, 1, 3, 1) {
+    if matches(
+        white,
+        primaries,
+        transfer,
+        intent,
+        JxlWhitePoint::D65,
+        JxlPrimaries::BT2100,
+        JxlTransferFunction::PQ,
+        RenderingIntent::Relative,
+    ) {
         return put_bytes(out, 0, b"Rec2100PQ");
     }
-    if are(w, p, t, i, 0, 1, 5, 1) {
+    if matches(
+        white,
+        primaries,
+        transfer,
+        intent,
+        JxlWhitePoint::D65,
+        JxlPrimaries::BT2100,
+        JxlTransferFunction::HLG,
+        RenderingIntent::Relative,
+    ) {
         return put_bytes(out, 0, b"Rec2100HLG");
     }
     put_rgb_text(out, white, primaries, transfer, intent)
@@ -267,7 +240,7 @@ fn put_rgb(
 
 fn put_description(out: &mut [u8], encoding: JxlColorEncoding) -> usize
     requires { ⌜ 449 ≤ length (now out) ⌝ }
-    ensures { λ r. ⌜ Puts (now (out .entry)) 0 (description encoding) r (now (out .exit)) × Short (WhiteInRange encoding) (description encoding) ⌝ }
+    ensures { λ r. ⌜ PutsDescription (WhiteInRange encoding) (description encoding) (now (out .entry)) r (now (out .exit)) ⌝ }
 {
     match encoding {
         JxlColorEncoding::RgbColorSpace {
@@ -292,7 +265,7 @@ fn put_description(out: &mut [u8], encoding: JxlColorEncoding) -> usize
 }
 
 pub fn get_color_encoding_description(encoding: JxlColorEncoding) -> Text
-    ensures { λ r. ⌜ (r .len ≡ length (description encoding)) × (r .bytes ≡ description encoding ++ replicate (449 - length (description encoding)) 0) × Short (WhiteInRange encoding) (description encoding) ⌝ }
+    ensures { λ r. ⌜ Describes encoding r ⌝ }
 {
     let mut bytes = [0u8; 449];
     let len = put_description(&mut bytes, encoding);

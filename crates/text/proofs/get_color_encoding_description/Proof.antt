@@ -14,8 +14,8 @@ put-description-requires c κs = search needs
 returns : tie.Need-returns
 returns c =
     let call = c .before .put-description in
-    let front = in-front 449 (call .ensures .0) in
-    (front .0, front .1, call .ensures .1)
+    let front = in-front 449 (call .ensures .puts) in
+    record { len = front .0; bytes = front .1; short = call .ensures .short }
 
 pub get-color-encoding-description-spec : {M : Type 1} → statement M
 get-color-encoding-description-spec =

@@ -1,11 +1,9 @@
 -- Each arm is the clause of `description` for its variant.
 -- Assumes nothing.
 use mathlib.Core.Path.{sym, ap, subst}
-use native.Mathlib.Nat.{le-trans}
-use lib.Dec.{lit≤}
 use Rattle.color_encoding.specs.declared.JxlColorEncoding.{JxlColorEncoding}
-use Rattle.text.specs.Held.{WhiteInRange, Short}
-use Rattle.text.specs.BoundsLaws.{short}
+use Rattle.text.specs.Held.{WhiteInRange}
+use Rattle.text.specs.Written.{Short}
 use Rattle.buffer.specs.PutsLaws.{same}
 use Rattle.text.specs.Description.{description}
 use borrow.Author.Needs.{needs}
@@ -43,7 +41,7 @@ returns c =
     let held = d .before .before .before in
     let s = held .before .before .before in
     let told = held .encoding .given .1 in
-    (same (description (s .args .encoding)) (d .put-rgb .ensures .0) (ap description told), subst ShortText (sym told) (d .put-rgb .ensures .1))
+    record { puts = same (description (s .args .encoding)) (d .put-rgb .ensures .puts) (ap description told); short = subst ShortText (sym told) (d .put-rgb .ensures .short) }
 
 same-length-2 : tie.Need-same-length-2
 same-length-2 c = search needs
@@ -54,10 +52,8 @@ returns-2 c =
     let d = c .before .before in
     let held = d .before .before .before in
     let s = held .before .before .before in
-    let told = held .encoding2 .given .1 in (
-      same (description (s .args .encoding)) (d .put-gray .ensures .0) (ap description told),
-      subst ShortText (sym told) (short (le-trans (d .put-gray .ensures .1) (lit≤ tt))),
-    )
+    let told = held .encoding2 .given .1 in
+    record { puts = same (description (s .args .encoding)) (d .put-gray .ensures .puts) (ap description told); short = subst ShortText (sym told) (d .put-gray .ensures .short) }
 
 same-length-3 : tie.Need-same-length-3
 same-length-3 c = search needs
@@ -68,10 +64,8 @@ returns-3 c =
     let d = c .before .before in
     let held = d .before .before .before in
     let s = held .before .before .before in
-    let told = held .encoding3 .given .1 in (
-      same (description (s .args .encoding)) (d .put-xyb .ensures .0) (ap description told),
-      subst ShortText (sym told) (short (le-trans (d .put-xyb .ensures .1) (lit≤ tt))),
-    )
+    let told = held .encoding3 .given .1 in
+    record { puts = same (description (s .args .encoding)) (d .put-xyb .ensures .puts) (ap description told); short = subst ShortText (sym told) (d .put-xyb .ensures .short) }
 
 pub put-description-spec : {M : Type 1} → statement M
 put-description-spec =

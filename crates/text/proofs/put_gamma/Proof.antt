@@ -29,12 +29,14 @@ returns : tie.Need-returns
 returns c =
     let second = c .before .before in
     let first = second .before .before .before .before in
-    let s = first .before .before .before in (
-      then (103 ∷ sevenDecimals (s .args .g)) (omega (arith, s .pre)) (wrote (s .args .out .now) (s .args .at) (103 ∷ []) (first .put-byte .ensures))
-          (wrote _ (first .put-byte .result) (sevenDecimals (s .args .g)) (second .put-seven-decimals .ensures)) refl,
-      omega (arith, length-seven (s .args .g) (held s)),
-      held s,
-    )
+    let s = first .before .before .before in
+    record {
+      puts =
+          then (103 ∷ sevenDecimals (s .args .g)) (omega (arith, s .pre)) (wrote (s .args .out .now) (s .args .at) (103 ∷ []) (first .put-byte .ensures))
+          (wrote _ (first .put-byte .result) (sevenDecimals (s .args .g)) (second .put-seven-decimals .ensures)) refl;
+      most = omega (arith, length-seven (s .args .g) (held s));
+      held = held s;
+    }
 
 pub put-gamma-spec : {M : Type 1} → statement M
 put-gamma-spec =

@@ -4,9 +4,11 @@ use Prim.Native.Nat.{_≤_}
 use mathlib.Core.Path.{refl}
 use mathlib.Core.List.{[], _∷_}
 use native.Mathlib.Omega.{arith}
+use native.Mathlib.Nat.{le-trans}
+use lib.Dec.{lit≤}
 use lib.ListN.{length}
 use Rattle.buffer.specs.PutsLaws.{then, wrote}
-use Rattle.text.specs.BoundsLaws.{length-gray-text}
+use Rattle.text.specs.BoundsLaws.{short, length-gray-text}
 use Rattle.text.specs.Description.{underscore, grayText}
 use borrow.Author.Needs.{needs}
 use Rattle.text.proofs.put_gray.Statement.{statement}
@@ -49,13 +51,14 @@ returns c =
     let l = s .args .out .now in
     let room : 0 ≤ length l = omega arith in
     let name = wrote l 0 (71 ∷ 114 ∷ 97 ∷ 95 ∷ []) (e1 .put-bytes .ensures) in
-    let white = then _ room name (e2 .put-white .ensures .0) refl in
+    let white = then _ room name (e2 .put-white .ensures .puts) refl in
     let white-end = then _ room white (wrote _ (e2 .put-white .result) underscore (e3 .put-byte .ensures)) refl in
-    let intent = then _ room white-end (e4 .put-intent .ensures .0) refl in
-    let intent-end = then _ room intent (wrote _ (e4 .put-intent .result) underscore (e5 .put-byte2 .ensures)) refl in (
-      then (grayText (s .args .white) (s .args .transfer) (s .args .intent)) room intent-end (e6 .put-transfer .ensures .0) refl,
-      length-gray-text (s .args .white) (s .args .transfer) (s .args .intent) (e2 .put-white .ensures .2) (e6 .put-transfer .ensures .2),
-    )
+    let intent = then _ room white-end (e4 .put-intent .ensures) refl in
+    let intent-end = then _ room intent (wrote _ (e4 .put-intent .result) underscore (e5 .put-byte2 .ensures)) refl in
+    record {
+      puts = then (grayText (s .args .white) (s .args .transfer) (s .args .intent)) room intent-end (e6 .put-transfer .ensures .puts) refl;
+      short = short (le-trans (length-gray-text (s .args .white) (s .args .transfer) (s .args .intent) (e2 .put-white .ensures .held) (e6 .put-transfer .ensures .held)) (lit≤ tt));
+    }
 
 pub put-gray-spec : {M : Type 1} → statement M
 put-gray-spec =

@@ -44,14 +44,16 @@ returns c =
     let first = second .before .before .before .before in
     let s = first .before .before .before in
     let l = s .args .out .now in
-    let x = sevenDecimals (s .args .x) in (
-      then (pair (s .args .separator ∷ []) (s .args .x) (s .args .y)) (omega (arith, s .pre))
+    let x = sevenDecimals (s .args .x) in
+    record {
+      puts =
+          then (pair (s .args .separator ∷ []) (s .args .x) (s .args .y)) (omega (arith, s .pre))
           (then (x ++ (s .args .separator ∷ [])) (omega (arith, s .pre)) (wrote l (s .args .at) x (first .put-seven-decimals .ensures))
           (wrote _ (first .put-seven-decimals .result) (s .args .separator ∷ []) (second .put-byte .ensures)) refl)
-          (wrote _ (second .put-byte .result) (sevenDecimals (s .args .y)) (third .put-seven-decimals2 .ensures)) refl,
-      omega (arith, length-seven (s .args .x) (held-x s), length-seven (s .args .y) (held-y s)),
-      (held-x s, held-y s),
-    )
+          (wrote _ (second .put-byte .result) (sevenDecimals (s .args .y)) (third .put-seven-decimals2 .ensures)) refl;
+      most = omega (arith, length-seven (s .args .x) (held-x s), length-seven (s .args .y) (held-y s));
+      held = (held-x s, held-y s);
+    }
 
 pub put-pair-spec : {M : Type 1} → statement M
 put-pair-spec =

@@ -69,7 +69,7 @@ returns c =
     let arm = d .before .before .before in
     let s = arm .before .before .before in
     let told = arm .enum-told .given .1 in
-    (same (primariesName (s .args .primaries)) (wrote (s .args .out .now) (s .args .at) (83 ∷ 82 ∷ 71 ∷ []) (d .put-bytes .ensures)) (ap primariesName told), search needs, subst HeldPrimaries (sym told) tt)
+    record { puts = same (primariesName (s .args .primaries)) (wrote (s .args .out .now) (s .args .at) (83 ∷ 82 ∷ 71 ∷ []) (d .put-bytes .ensures)) (ap primariesName told); most = search needs; held = subst HeldPrimaries (sym told) tt }
 
 same-length-2 : tie.Need-same-length-2
 same-length-2 c = search needs
@@ -81,7 +81,7 @@ returns-2 c =
     let arm = d .before .before .before in
     let s = arm .before .before .before in
     let told = arm .enum-told2 .given .1 in
-    (same (primariesName (s .args .primaries)) (wrote (s .args .out .now) (s .args .at) (50 ∷ 48 ∷ 50 ∷ []) (d .put-bytes2 .ensures)) (ap primariesName told), search needs, subst HeldPrimaries (sym told) tt)
+    record { puts = same (primariesName (s .args .primaries)) (wrote (s .args .out .now) (s .args .at) (50 ∷ 48 ∷ 50 ∷ []) (d .put-bytes2 .ensures)) (ap primariesName told); most = search needs; held = subst HeldPrimaries (sym told) tt }
 
 same-length-3 : tie.Need-same-length-3
 same-length-3 c = search needs
@@ -93,7 +93,7 @@ returns-3 c =
     let arm = d .before .before .before in
     let s = arm .before .before .before in
     let told = arm .enum-told3 .given .1 in
-    (same (primariesName (s .args .primaries)) (wrote (s .args .out .now) (s .args .at) (68 ∷ 67 ∷ 73 ∷ []) (d .put-bytes3 .ensures)) (ap primariesName told), search needs, subst HeldPrimaries (sym told) tt)
+    record { puts = same (primariesName (s .args .primaries)) (wrote (s .args .out .now) (s .args .at) (68 ∷ 67 ∷ 73 ∷ []) (d .put-bytes3 .ensures)) (ap primariesName told); most = search needs; held = subst HeldPrimaries (sym told) tt }
 
 same-length-4 : tie.Need-same-length-4
 same-length-4 c = search needs
@@ -110,15 +110,19 @@ returns-4 c =
     let s = held .before .before .before in
     let l = s .args .out .now in
     let room : s .args .at ≤ length l = omega (arith, s .pre) in
-    let r = red .put-pair .ensures .0 in (
-      same (primariesName (s .args .primaries))
-          (then _ room (then _ room (then _ room (then _ room r (wrote _ (red .put-pair .result) semicolon (before-green .put-byte .ensures)) refl)
-          (green .put-pair2 .ensures .0) refl) (wrote _ (green .put-pair2 .result) semicolon (before-blue .put-byte2 .ensures)) refl)
-          (blue .put-pair3 .ensures .0) refl)
-          (ap primariesName (held .primaries .given .1)),
-      omega (arith, red .put-pair .ensures .1, before-green .put-byte .ensures .0, green .put-pair2 .ensures .1, before-blue .put-byte2 .ensures .0, blue .put-pair3 .ensures .1),
-      subst HeldPrimaries (sym (held .primaries .given .1)) (red .put-pair .ensures .2, (green .put-pair2 .ensures .2, blue .put-pair3 .ensures .2)),
-    )
+    let r = red .put-pair .ensures in
+    let g = green .put-pair2 .ensures in
+    let b = blue .put-pair3 .ensures in
+    record {
+      puts =
+          same (primariesName (s .args .primaries))
+          (then _ room (then _ room (then _ room (then _ room (r .puts) (wrote _ (red .put-pair .result) semicolon (before-green .put-byte .ensures)) refl)
+          (g .puts) refl) (wrote _ (green .put-pair2 .result) semicolon (before-blue .put-byte2 .ensures)) refl)
+          (b .puts) refl)
+          (ap primariesName (held .primaries .given .1));
+      most = omega (arith, r .most, before-green .put-byte .ensures .place, g .most, before-blue .put-byte2 .ensures .place, b .most);
+      held = subst HeldPrimaries (sym (held .primaries .given .1)) (r .held, (g .held, b .held));
+    }
 
 pub put-primaries-spec : {M : Type 1} → statement M
 put-primaries-spec =

@@ -57,15 +57,16 @@ returns c =
     let l = s .args .out .now in
     let room : 0 ≤ length l = omega arith in
     let name = wrote l 0 (82 ∷ 71 ∷ 66 ∷ 95 ∷ []) (e1 .put-bytes .ensures) in
-    let white = then _ room name (e2 .put-white .ensures .0) refl in
+    let white = then _ room name (e2 .put-white .ensures .puts) refl in
     let white-end = then _ room white (wrote _ (e2 .put-white .result) underscore (e3 .put-byte .ensures)) refl in
-    let primaries = then _ room white-end (e4 .put-primaries .ensures .0) refl in
+    let primaries = then _ room white-end (e4 .put-primaries .ensures .puts) refl in
     let primaries-end = then _ room primaries (wrote _ (e4 .put-primaries .result) underscore (e5 .put-byte2 .ensures)) refl in
-    let intent = then _ room primaries-end (e6 .put-intent .ensures .0) refl in
-    let intent-end = then _ room intent (wrote _ (e6 .put-intent .result) underscore (e7 .put-byte3 .ensures)) refl in (
-      then (rgbText (s .args .white) (s .args .primaries) (s .args .transfer) (s .args .intent)) room intent-end (e8 .put-transfer .ensures .0) refl,
-      short-rgb (s .args .white) (s .args .primaries) (s .args .transfer) (s .args .intent) (e2 .put-white .ensures .2) (e4 .put-primaries .ensures .2) (e8 .put-transfer .ensures .2),
-    )
+    let intent = then _ room primaries-end (e6 .put-intent .ensures) refl in
+    let intent-end = then _ room intent (wrote _ (e6 .put-intent .result) underscore (e7 .put-byte3 .ensures)) refl in
+    record {
+      puts = then (rgbText (s .args .white) (s .args .primaries) (s .args .transfer) (s .args .intent)) room intent-end (e8 .put-transfer .ensures .puts) refl;
+      short = short-rgb (s .args .white) (s .args .primaries) (s .args .transfer) (s .args .intent) (e2 .put-white .ensures .held) (e4 .put-primaries .ensures .held) (e8 .put-transfer .ensures .held);
+    }
 
 pub put-rgb-text-spec : {M : Type 1} → statement M
 put-rgb-text-spec =

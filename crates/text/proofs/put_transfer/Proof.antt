@@ -79,7 +79,7 @@ returns c =
     let arm = d .before .before .before in
     let s = arm .before .before .before in
     let told = arm .enum-told .given .1 in
-    (same (transferName (s .args .transfer)) (wrote (s .args .out .now) (s .args .at) (55 ∷ 48 ∷ 57 ∷ []) (d .put-bytes .ensures)) (ap transferName told), search needs, subst HeldTransfer (sym told) tt)
+    record { puts = same (transferName (s .args .transfer)) (wrote (s .args .out .now) (s .args .at) (55 ∷ 48 ∷ 57 ∷ []) (d .put-bytes .ensures)) (ap transferName told); most = search needs; held = subst HeldTransfer (sym told) tt }
 
 same-length-2 : tie.Need-same-length-2
 same-length-2 c = search needs
@@ -91,7 +91,7 @@ returns-2 c =
     let arm = d .before .before .before in
     let s = arm .before .before .before in
     let told = arm .enum-told2 .given .1 in
-    (same (transferName (s .args .transfer)) (wrote (s .args .out .now) (s .args .at) (76 ∷ 105 ∷ 110 ∷ []) (d .put-bytes2 .ensures)) (ap transferName told), search needs, subst HeldTransfer (sym told) tt)
+    record { puts = same (transferName (s .args .transfer)) (wrote (s .args .out .now) (s .args .at) (76 ∷ 105 ∷ 110 ∷ []) (d .put-bytes2 .ensures)) (ap transferName told); most = search needs; held = subst HeldTransfer (sym told) tt }
 
 same-length-3 : tie.Need-same-length-3
 same-length-3 c = search needs
@@ -103,7 +103,7 @@ returns-3 c =
     let arm = d .before .before .before in
     let s = arm .before .before .before in
     let told = arm .enum-told3 .given .1 in
-    (same (transferName (s .args .transfer)) (wrote (s .args .out .now) (s .args .at) (83 ∷ 82 ∷ 71 ∷ []) (d .put-bytes3 .ensures)) (ap transferName told), search needs, subst HeldTransfer (sym told) tt)
+    record { puts = same (transferName (s .args .transfer)) (wrote (s .args .out .now) (s .args .at) (83 ∷ 82 ∷ 71 ∷ []) (d .put-bytes3 .ensures)) (ap transferName told); most = search needs; held = subst HeldTransfer (sym told) tt }
 
 same-length-4 : tie.Need-same-length-4
 same-length-4 c = search needs
@@ -115,7 +115,7 @@ returns-4 c =
     let arm = d .before .before .before in
     let s = arm .before .before .before in
     let told = arm .enum-told4 .given .1 in
-    (same (transferName (s .args .transfer)) (wrote (s .args .out .now) (s .args .at) (80 ∷ 101 ∷ 81 ∷ []) (d .put-bytes4 .ensures)) (ap transferName told), search needs, subst HeldTransfer (sym told) tt)
+    record { puts = same (transferName (s .args .transfer)) (wrote (s .args .out .now) (s .args .at) (80 ∷ 101 ∷ 81 ∷ []) (d .put-bytes4 .ensures)) (ap transferName told); most = search needs; held = subst HeldTransfer (sym told) tt }
 
 same-length-5 : tie.Need-same-length-5
 same-length-5 c = search needs
@@ -127,7 +127,7 @@ returns-5 c =
     let arm = d .before .before .before in
     let s = arm .before .before .before in
     let told = arm .enum-told5 .given .1 in
-    (same (transferName (s .args .transfer)) (wrote (s .args .out .now) (s .args .at) (68 ∷ 67 ∷ 73 ∷ []) (d .put-bytes5 .ensures)) (ap transferName told), search needs, subst HeldTransfer (sym told) tt)
+    record { puts = same (transferName (s .args .transfer)) (wrote (s .args .out .now) (s .args .at) (68 ∷ 67 ∷ 73 ∷ []) (d .put-bytes5 .ensures)) (ap transferName told); most = search needs; held = subst HeldTransfer (sym told) tt }
 
 same-length-6 : tie.Need-same-length-6
 same-length-6 c = search needs
@@ -139,7 +139,7 @@ returns-6 c =
     let arm = d .before .before .before in
     let s = arm .before .before .before in
     let told = arm .enum-told6 .given .1 in
-    (same (transferName (s .args .transfer)) (wrote (s .args .out .now) (s .args .at) (72 ∷ 76 ∷ 71 ∷ []) (d .put-bytes6 .ensures)) (ap transferName told), search needs, subst HeldTransfer (sym told) tt)
+    record { puts = same (transferName (s .args .transfer)) (wrote (s .args .out .now) (s .args .at) (72 ∷ 76 ∷ 71 ∷ []) (d .put-bytes6 .ensures)) (ap transferName told); most = search needs; held = subst HeldTransfer (sym told) tt }
 
 same-length-7 : tie.Need-same-length-7
 same-length-7 c = search needs
@@ -150,7 +150,8 @@ returns-7 c =
     let d = c .before .before in
     let held = d .before .before .before in
     let s = held .before .before .before in
-    (same (transferName (s .args .transfer)) (d .put-gamma .ensures .0) (ap transferName (held .transfer .given .1)), d .put-gamma .ensures .1, subst HeldTransfer (sym (held .transfer .given .1)) (d .put-gamma .ensures .2))
+    let p = d .put-gamma .ensures in
+    record { puts = same (transferName (s .args .transfer)) (p .puts) (ap transferName (held .transfer .given .1)); most = p .most; held = subst HeldTransfer (sym (held .transfer .given .1)) (p .held) }
 
 pub put-transfer-spec : {M : Type 1} → statement M
 put-transfer-spec =

@@ -52,7 +52,7 @@ returns c =
     let arm = d .before .before .before in
     let s = arm .before .before .before in
     let told = arm .enum-told .given .1 in
-    (same (whiteName (s .args .white)) (wrote (s .args .out .now) (s .args .at) (68 ∷ 54 ∷ 53 ∷ []) (d .put-bytes .ensures)) (ap whiteName told), search needs, subst HeldWhite (sym told) tt)
+    record { puts = same (whiteName (s .args .white)) (wrote (s .args .out .now) (s .args .at) (68 ∷ 54 ∷ 53 ∷ []) (d .put-bytes .ensures)) (ap whiteName told); most = search needs; held = subst HeldWhite (sym told) tt }
 
 same-length-2 : tie.Need-same-length-2
 same-length-2 c = search needs
@@ -64,7 +64,7 @@ returns-2 c =
     let arm = d .before .before .before in
     let s = arm .before .before .before in
     let told = arm .enum-told2 .given .1 in
-    (same (whiteName (s .args .white)) (wrote (s .args .out .now) (s .args .at) (69 ∷ 69 ∷ 82 ∷ []) (d .put-bytes2 .ensures)) (ap whiteName told), search needs, subst HeldWhite (sym told) tt)
+    record { puts = same (whiteName (s .args .white)) (wrote (s .args .out .now) (s .args .at) (69 ∷ 69 ∷ 82 ∷ []) (d .put-bytes2 .ensures)) (ap whiteName told); most = search needs; held = subst HeldWhite (sym told) tt }
 
 same-length-3 : tie.Need-same-length-3
 same-length-3 c = search needs
@@ -76,7 +76,7 @@ returns-3 c =
     let arm = d .before .before .before in
     let s = arm .before .before .before in
     let told = arm .enum-told3 .given .1 in
-    (same (whiteName (s .args .white)) (wrote (s .args .out .now) (s .args .at) (68 ∷ 67 ∷ 73 ∷ []) (d .put-bytes3 .ensures)) (ap whiteName told), search needs, subst HeldWhite (sym told) tt)
+    record { puts = same (whiteName (s .args .white)) (wrote (s .args .out .now) (s .args .at) (68 ∷ 67 ∷ 73 ∷ []) (d .put-bytes3 .ensures)) (ap whiteName told); most = search needs; held = subst HeldWhite (sym told) tt }
 
 same-length-4 : tie.Need-same-length-4
 same-length-4 c = search needs
@@ -87,7 +87,8 @@ returns-4 c =
     let d = c .before .before in
     let held = d .before .before .before in
     let s = held .before .before .before in
-    (same (whiteName (s .args .white)) (d .put-pair .ensures .0) (ap whiteName (held .white .given .1)), d .put-pair .ensures .1, subst HeldWhite (sym (held .white .given .1)) (d .put-pair .ensures .2))
+    let p = d .put-pair .ensures in
+    record { puts = same (whiteName (s .args .white)) (p .puts) (ap whiteName (held .white .given .1)); most = p .most; held = subst HeldWhite (sym (held .white .given .1)) (p .held) }
 
 pub put-white-spec : {M : Type 1} → statement M
 put-white-spec =

@@ -4,9 +4,11 @@ use Prim.Native.Nat.{_≤_}
 use mathlib.Core.Path.{refl}
 use mathlib.Core.List.{[], _∷_}
 use native.Mathlib.Omega.{arith}
+use native.Mathlib.Nat.{le-trans}
+use lib.Dec.{lit≤}
 use lib.ListN.{length}
 use Rattle.buffer.specs.PutsLaws.{then, wrote}
-use Rattle.text.specs.BoundsLaws.{length-xyb-text}
+use Rattle.text.specs.BoundsLaws.{short, length-xyb-text}
 use Rattle.text.specs.Description.{xybText}
 use borrow.Author.Needs.{needs}
 use Rattle.text.proofs.put_xyb.Statement.{statement}
@@ -32,7 +34,7 @@ returns c =
     let s = e1 .before .before .before .before in
     let l = s .args .out .now in
     let room : 0 ≤ length l = omega arith in
-    (then (xybText (s .args .intent)) room (wrote l 0 (88 ∷ 89 ∷ 66 ∷ 95 ∷ []) (e1 .put-bytes .ensures)) (e2 .put-intent .ensures .0) refl, length-xyb-text (s .args .intent))
+    record { puts = then (xybText (s .args .intent)) room (wrote l 0 (88 ∷ 89 ∷ 66 ∷ 95 ∷ []) (e1 .put-bytes .ensures)) (e2 .put-intent .ensures) refl; short = short (le-trans (length-xyb-text (s .args .intent)) (lit≤ tt)) }
 
 pub put-xyb-spec : {M : Type 1} → statement M
 put-xyb-spec =

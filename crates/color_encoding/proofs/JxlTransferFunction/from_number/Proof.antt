@@ -1,18 +1,17 @@
 -- Each arm's number leads to its place in the list, and a number that no arm names lies past the list.
 use mathlib.Core.Path.{sym, ap}
 use mathlib.Core.Logic.{_≢_}
-use mathlib.Core.List.{map}
 use Prim.Native.Nat.{ℕ, _≤_}
 use native.Mathlib.Omega.{arith}
-use lib.ListN.{List·getD-eq-default}
-use Rattle.color_encoding.specs.declared.TransferFunctionCode.{TransferFunctionCode}
-use Rattle.color_encoding.specs.declared.TransferFunctionCode.the-variants.{Known, Unknown}
+use Rattle.buffer.specs.Checked.{Checked}
+use Rattle.color_encoding.specs.declared.JxlTransferFunction.{JxlTransferFunction}
 use Rattle.color_encoding.specs.Codes.{transferFunctionList, transferFunctionFrom}
+use Rattle.color_encoding.specs.CodesLaws.{past-all}
 use Rattle.color_encoding.proofs.JxlTransferFunction.from_number.Statement.{statement}
 use Rattle.color_encoding.proofs.JxlTransferFunction.from_number.Tie as tie
 
 -- the definition at another number, with the floats of the call
-abbrev at : tie.Start → ℕ → TransferFunctionCode
+abbrev at : tie.Start → ℕ → Checked JxlTransferFunction
 at c n = transferFunctionFrom n (c .args .gamma)
 
 -- none of the seven numbers, in two steps, since `omega` takes at most six inequations at once
@@ -48,7 +47,7 @@ returns-8 c =
     let n = c .before .args .curve in
     let r = c .match .rest in
     let low = past-three n (r .0 .0 .0 .0 .0 .0 .1) (r .0 .0 .0 .0 .0 .1) (r .0 .0 .0 .0 .1) (r .0 .0 .0 .1) in
-    sym (List·getD-eq-default (map Known (transferFunctionList (c .before .args .gamma))) Unknown (past-six n low (r .0 .0 .1) (r .0 .1) (r .1)))
+    past-all (transferFunctionList (c .before .args .gamma)) n (past-six n low (r .0 .0 .1) (r .0 .1) (r .1))
 
 pub from-number-spec : {M : Type 1} → statement M
 from-number-spec = tie.close (tie.spec returns returns-2 returns-3 returns-4 returns-5 returns-6 returns-7 returns-8)

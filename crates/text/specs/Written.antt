@@ -1,0 +1,34 @@
+-- What the functions that write a description ensure.
+-- Assumes nothing.
+use mathlib.Core.Path.{_≡_}
+use mathlib.Core.List.{List, _++_}
+use Prim.Native.Nat.{ℕ, _+_, _-_, _≤_}
+use lib.ListN.{length}
+use Rattle.buffer.specs.Bytes.{zeros}
+use Rattle.buffer.specs.Puts.{PutsText}
+use Rattle.color_encoding.specs.declared.JxlColorEncoding.{JxlColorEncoding}
+use Rattle.text.specs.Description.{description}
+use Rattle.text.specs.Held.{WhiteInRange}
+use Rattle.text.specs.declared.Text.{Text}
+
+-- a text of at most 449 letters, and of at most 372 where what is asked holds
+pub record Short (Asked : Type 0) (text : List ℕ) : Type 0 where
+  pub any : length text ≤ 449
+  pub accepted : Asked → length text ≤ 372
+
+-- a part of at most n bytes, put at a place; what is held are its floats
+pub record PutsPart (n : ℕ) (Floats : Type 0) (l : List ℕ) (at : ℕ) (part : List ℕ) (r : ℕ) (out : List ℕ) : Type 0 where
+  pub puts : PutsText l at part r out
+  pub most : r ≤ at + n
+  pub held : Floats
+
+-- a whole text, put to the front
+pub record PutsDescription (Asked : Type 0) (text l : List ℕ) (r : ℕ) (out : List ℕ) : Type 0 where
+  pub puts : PutsText l 0 text r out
+  pub short : Short Asked text
+
+-- the description by value, zeros after it
+pub record Describes (e : JxlColorEncoding) (text : Text) : Type 0 where
+  pub len : text .len ≡ length (description e)
+  pub bytes : text .bytes ≡ description e ++ zeros (449 - length (description e))
+  pub short : Short (WhiteInRange e) (description e)
