@@ -8,7 +8,7 @@ use native.Mathlib.Omega.{arith}
 use native.Mathlib.Nat.{add-zero}
 use lib.ListN.{length, take, drop, take-append-drop, length-drop, length-append, replicate}
 use lib.Seq.{take-append-le, drop-append-le, drop-append-add, length-take-le}
-use Rattle.md5.specs.declared.State.{State}
+use Rattle.md5_rounds.specs.declared.State.{State}
 use Rattle.md5.specs.Md5.{wordsOf, message, lengthBytes, buffer, afterBlock, blockAt, afterBlocks, output, md5}
 use Rattle.md5.proofs.Words.{length-words, words-append}
 

@@ -1,8 +1,9 @@
 -- `md5::block` meets its contract, by what the four rounds and the four sums ensure.
 -- Assumes nothing.
 use mathlib.Core.Path.{_≡_, ap, _∙_}
-use Rattle.md5.specs.declared.State.{State}
-use Rattle.md5.specs.Md5.{round1, round2, round3, round4, plus, afterBlock}
+use Rattle.md5_rounds.specs.declared.State.{State}
+use Rattle.md5_rounds.specs.Rounds.{round1, round2, round3, round4}
+use Rattle.md5.specs.Md5.{plus, afterBlock}
 use borrow.Author.Needs.{needs}
 use Rattle.md5.proofs.block.Statement.{statement}
 use Rattle.md5.proofs.block.Tie as tie

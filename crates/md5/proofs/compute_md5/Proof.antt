@@ -3,14 +3,15 @@
 use native.Mathlib.Omega.{arith}
 use mathlib.Core.Path.{refl, sym, ap, _∙_}
 use lib.Seq.{length-take-le}
-use Rattle.md5.specs.Md5.{sines, afterBlocks, output}
+use Rattle.md5_rounds.specs.Rounds.{sineParts}
+use Rattle.md5.specs.Md5.{afterBlocks, output}
 use Rattle.md5.proofs.Blocks.{in-two}
 use borrow.Author.Needs.{needs}
 use Rattle.md5.proofs.compute_md5.Statement.{statement}
 use Rattle.md5.proofs.compute_md5.Tie as tie
 
 process-requires : tie.Need-process-requires
-unfolding sines
+unfolding sineParts
 process-requires c κs = refl
 
 slice-aggregate-pad : tie.Need-slice-aggregate-pad
@@ -26,7 +27,7 @@ slice-aggregate-process : tie.Need-slice-aggregate-process
 slice-aggregate-process c = sym (length-take-le (c .before .before .pad .result) (c .before .before .pad .last .1 .0) (omega (arith, c .before .before .pad .kept .1 .0)))
 
 process-requires-2 : tie.Need-process-requires-2
-unfolding sines
+unfolding sineParts
 process-requires-2 c κs = refl
 
 digest-requires : tie.Need-digest-requires

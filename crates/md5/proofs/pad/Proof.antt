@@ -75,7 +75,7 @@ returns c =
       ap (take e)
           (c .before .before .put-word2 .ensures ∙ ap (λ (l : List ℕ). putWord l (e - 4) (b / 2 ^ 32))
           (c .before .before .before .before .before .before .put-word .ensures ∙ ap (λ (l : List ℕ). putWord (set l (length m % 64) 128) (e - 8) (b % 2 ^ 32))
-          (c .before .before .before .before .before .before .before .before .before .before .put-bytes .ensures .1 ∙ ap₂ (λ (x y : List ℕ). put y 0 x) part (s .pre))))
+          (c .before .before .before .before .before .before .before .before .before .before .put-bytes .ensures .bytes ∙ ap₂ (λ (x y : List ℕ). put y 0 x) part (s .pre))))
           ∙ tail-is m e h,
     )
 

@@ -1,8 +1,8 @@
--- `md5::step` meets its contract, by what the sums and the rotation ensure.
+-- `md5_rounds::step` meets its contract, by what the sums and the rotation ensure.
 -- Assumes nothing.
 use borrow.Author.Needs.{needs}
-use Rattle.md5.proofs.step.Statement.{statement}
-use Rattle.md5.proofs.step.Tie as tie
+use Rattle.md5_rounds.proofs.step.Statement.{statement}
+use Rattle.md5_rounds.proofs.step.Tie as tie
 
 wrapping-add-u32-requires : tie.Need-wrapping-add-u32-requires
 wrapping-add-u32-requires c κs = search needs

@@ -1,13 +1,13 @@
--- `md5::round_1` meets its contract: the sixteen steps one after the other, each by what `step_f` ensures.
+-- `md5_rounds::round_1` meets its contract: the sixteen steps one after the other, each by what `step_f` ensures.
 -- Assumes nothing.
 use borrow.Author.Needs.{needs}
 use mathlib.Core.Path.{ap, _∙_}
-use Rattle.md5.specs.Md5.{sines, operate, round1, F}
-use Rattle.md5.proofs.round_1.Statement.{statement}
-use Rattle.md5.proofs.round_1.Tie as tie
+use Rattle.md5_rounds.specs.Rounds.{sineParts, operate, round1, F}
+use Rattle.md5_rounds.proofs.round_1.Statement.{statement}
+use Rattle.md5_rounds.proofs.round_1.Tie as tie
 
 returns : tie.Need-returns
-unfolding round1 sines
+unfolding round1 sineParts
 returns c =
     rw (c .before .before .before .before .before .before .before .before .before .before .before .before .before .before .before .before .pre) at
     (c .step-f16 .ensures ∙ ap (operate F _ _ _)

@@ -1,13 +1,13 @@
--- `md5::round_3` meets its contract: the sixteen steps one after the other, each by what `step_h` ensures.
+-- `md5_rounds::round_3` meets its contract: the sixteen steps one after the other, each by what `step_h` ensures.
 -- Assumes nothing.
 use borrow.Author.Needs.{needs}
 use mathlib.Core.Path.{ap, _∙_}
-use Rattle.md5.specs.Md5.{sines, operate, round3, H}
-use Rattle.md5.proofs.round_3.Statement.{statement}
-use Rattle.md5.proofs.round_3.Tie as tie
+use Rattle.md5_rounds.specs.Rounds.{sineParts, operate, round3, H}
+use Rattle.md5_rounds.proofs.round_3.Statement.{statement}
+use Rattle.md5_rounds.proofs.round_3.Tie as tie
 
 returns : tie.Need-returns
-unfolding round3 sines
+unfolding round3 sineParts
 returns c =
     rw (c .before .before .before .before .before .before .before .before .before .before .before .before .before .before .before .before .pre) at
     (c .step-h16 .ensures ∙ ap (operate H _ _ _)

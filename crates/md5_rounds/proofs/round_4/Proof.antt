@@ -1,13 +1,13 @@
--- `md5::round_4` meets its contract: the sixteen steps one after the other, each by what `step_i` ensures.
+-- `md5_rounds::round_4` meets its contract: the sixteen steps one after the other, each by what `step_i` ensures.
 -- Assumes nothing.
 use borrow.Author.Needs.{needs}
 use mathlib.Core.Path.{ap, _∙_}
-use Rattle.md5.specs.Md5.{sines, operate, round4, I}
-use Rattle.md5.proofs.round_4.Statement.{statement}
-use Rattle.md5.proofs.round_4.Tie as tie
+use Rattle.md5_rounds.specs.Rounds.{sineParts, operate, round4, I}
+use Rattle.md5_rounds.proofs.round_4.Statement.{statement}
+use Rattle.md5_rounds.proofs.round_4.Tie as tie
 
 returns : tie.Need-returns
-unfolding round4 sines
+unfolding round4 sineParts
 returns c =
     rw (c .before .before .before .before .before .before .before .before .before .before .before .before .before .before .before .before .pre) at
     (c .step-i16 .ensures ∙ ap (operate I _ _ _)

@@ -1,4 +1,4 @@
--- `md5::rotate_left` meets its contract: the two parts that are joined have no bit in common, so that to join them is to add them.
+-- `md5_rounds::rotate_left` meets its contract: the two parts that are joined have no bit in common, so that to join them is to add them.
 -- Assumes nothing.
 use mathlib.Core.Path.{_≡_, sym, ap, _∙_, subst}
 use Prim.Native.Nat.{ℕ, _+_, _-_, _*_, _/_, _%_, _^_, _<_}
@@ -7,8 +7,8 @@ use native.Mathlib.Nat.{mul-mod-left, add-zero}
 use lib.Pow.{mod-pow-add, shl-shr, shr-lt}
 use lib.Bits.{bitOr, or-shifted}
 use borrow.Author.Needs.{needs}
-use Rattle.md5.proofs.rotate_left.Statement.{statement}
-use Rattle.md5.proofs.rotate_left.Tie as tie
+use Rattle.md5_rounds.proofs.rotate_left.Statement.{statement}
+use Rattle.md5_rounds.proofs.rotate_left.Tie as tie
 
 -- the two parts have no digit in common
 parts : (x s : ℕ) → x < 2 ^ 32 → s < 32 → bitOr (x * 2 ^ s % 2 ^ 32) (x / 2 ^ (32 - s)) ≡ x * 2 ^ s % 2 ^ 32 + x / 2 ^ (32 - s)

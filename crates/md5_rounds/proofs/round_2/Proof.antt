@@ -1,13 +1,13 @@
--- `md5::round_2` meets its contract: the sixteen steps one after the other, each by what `step_g` ensures.
+-- `md5_rounds::round_2` meets its contract: the sixteen steps one after the other, each by what `step_g` ensures.
 -- Assumes nothing.
 use borrow.Author.Needs.{needs}
 use mathlib.Core.Path.{ap, _∙_}
-use Rattle.md5.specs.Md5.{sines, operate, round2, G}
-use Rattle.md5.proofs.round_2.Statement.{statement}
-use Rattle.md5.proofs.round_2.Tie as tie
+use Rattle.md5_rounds.specs.Rounds.{sineParts, operate, round2, G}
+use Rattle.md5_rounds.proofs.round_2.Statement.{statement}
+use Rattle.md5_rounds.proofs.round_2.Tie as tie
 
 returns : tie.Need-returns
-unfolding round2 sines
+unfolding round2 sineParts
 returns c =
     rw (c .before .before .before .before .before .before .before .before .before .before .before .before .before .before .before .before .pre) at
     (c .step-g16 .ensures ∙ ap (operate G _ _ _)

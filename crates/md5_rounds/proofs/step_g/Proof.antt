@@ -1,9 +1,9 @@
--- `md5::step_g` meets its contract: it is what `step` ensures, with the value of the round's function.
+-- `md5_rounds::step_g` meets its contract: it is what `step` ensures, with the value of the round's function.
 -- Assumes nothing.
 use borrow.Author.Needs.{needs}
-use Rattle.md5.specs.Md5.{operate}
-use Rattle.md5.proofs.step_g.Statement.{statement}
-use Rattle.md5.proofs.step_g.Tie as tie
+use Rattle.md5_rounds.specs.Rounds.{operate}
+use Rattle.md5_rounds.proofs.step_g.Statement.{statement}
+use Rattle.md5_rounds.proofs.step_g.Tie as tie
 
 step-requires : tie.Need-step-requires
 step-requires c κs = search needs
