@@ -4,7 +4,7 @@ use mathlib.Core.Path.{_≡_, refl, sym, subst}
 use mathlib.Core.Bool.{true, false}
 use lib.Dec.{T}
 use lib.Ieee.{Float, nan, inf, fin, ofBits, div, neg, lt}
-use Rattle.linalg.specs.Binary64.{_⊘_, zero, one}
+use Rattle.floats.specs.Binary64.{_⊘_, zero, one}
 use Rattle.colorimetry.specs.White.{finite}
 
 -- above minus infinity, a number is finite where it is below infinity

@@ -1,7 +1,7 @@
 -- The loop that divides the cone responses and stops at a quotient that is not finite.
 -- Assumes nothing.
-use mathlib.Core.Path.{_≡_, refl, sym, ap, _∙_}
-use mathlib.Core.Bool.{Bool, true, false, _&&_}
+use mathlib.Core.Path.{_≡_, sym, ap, _∙_}
+use mathlib.Core.Bool.{true, false}
 use mathlib.Core.List.{List}
 use Prim.Native.Nat.{ℕ, zero, suc, _+_, _<_}
 use native.Mathlib.Omega.{arith}
@@ -9,7 +9,8 @@ use borrow.Author.Count.{below-more}
 use lib.Dec.{lit<}
 use lib.ListN.{set}
 use lib.Ieee.{Float}
-use Rattle.linalg.specs.Binary64 as Binary64
+use Rattle.buffer.specs.BoolLaws.{and-false}
+use Rattle.floats.specs.Binary64 as Binary64
 use Rattle.linalg.specs.Linalg.{three}
 use Rattle.linalg.specs.FillLaws.{Filled, fill}
 use Rattle.colorimetry.specs.White.{finite}
@@ -24,15 +25,11 @@ pub gain :
     {f : ℕ → Float} {x : Float} {v : List Float} {i : ℕ} → Gained f v i → i < 3 → x ≡ f i → finite x ≡ true → Gained f (set v i x) (i + 1)
 gain p h e t = record { filled = fill (p .filled) h e; all = below-more _ _ (p .all) (ap finite (sym e) ∙ t) }
 
-nothing : (b : Bool) → (b && false) ≡ false
-nothing true = refl
-nothing false = refl
-
 pub stops : (f : ℕ → Float) (i : ℕ) → i < 3 → finite (f i) ≡ false → allFinite (three f) ≡ false
 unfolding allFinite
 stops f zero h e = simp e
-stops f (suc zero) h e = simp (e, nothing)
-stops f (suc (suc zero)) h e = simp (e, nothing)
+stops f (suc zero) h e = simp (e, and-false)
+stops f (suc (suc zero)) h e = simp (e, and-false)
 stops f (suc (suc (suc i))) h e = absurd (omega arith)
 
 pub passes : (f : ℕ → Float) → ((k : ℕ) → k < 3 → finite (f k) ≡ true) → allFinite (three f) ≡ true

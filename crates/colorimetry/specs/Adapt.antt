@@ -1,15 +1,16 @@
--- The chromatic adaptation of a white point to D50 by the Bradford matrices: `adapt_to_xyz_d50` of api/color.rs, and its narrowing for the
--- element `chad` in `maybe_create_profile`. Assumes nothing.
+-- The chromatic adaptation of a white point to D50 by the Bradford matrices: `adapt_to_xyz_d50` of api/color.rs, and its narrowing, the
+-- `chad_matrix` of `maybe_create_profile`. Assumes nothing.
 use Prim.Native.Nat.{ℕ}
 use mathlib.Core.Bool.{Bool, _&&_, _||_, not, cond}
 use mathlib.Core.List.{List, [], _∷_}
-use mathlib.Core.Option.{Option, none, some}
 use lib.Ieee.{Float, binary64, ofBits, eq}
-use Rattle.linalg.specs.Binary64.{_⊘_, zero, one}
+use Rattle.buffer.specs.Checked.{Checked, is, refused, then}
+use Rattle.floats.specs.Binary64.{_⊘_, zero, one}
 use Rattle.linalg.specs.Linalg.{three, component, matrix, entry, applied, product}
 use Rattle.numbers.specs.Narrow.{narrow}
 use Rattle.color_encoding.specs.declared.WhiteXy.{WhiteXy}
-use Rattle.colorimetry.specs.White.{inRange, whiteXyz, finite, finiteXyz}
+use Rattle.color_encoding.specs.Range.{inRange}
+use Rattle.colorimetry.specs.White.{whiteXyz, finite, finiteXyz}
 use Rattle.colorimetry.specs.declared.Adaptation.{Adaptation}
 use Rattle.colorimetry.specs.declared.Adaptation.the-variants.{Adapted, InvalidWhitePoint}
 
@@ -69,24 +70,17 @@ adaptable w = inRange w && finiteXyz (whiteXyz w) && not (hasZero (lms (whiteXyz
 unfoldable pub adaptationMatrix : List Float → List (List Float)
 adaptationMatrix g = product bradfordInv (product (diagonal g) bradford)
 
-unfoldable pub adaptToXyzD50 : WhiteXy → Option (List (List Float))
-adaptToXyzD50 w = cond (adaptable w) (some (adaptationMatrix (gains w))) none
+-- 4 of the refusal list of 01
+abbrev pub invalidWhitePoint : {A : Type 0} → Checked A
+invalidWhitePoint = refused 4
 
--- ---- the answer and the output
+unfoldable pub adaptToXyzD50 : WhiteXy → Checked (List (List Float))
+adaptToXyzD50 w = cond (adaptable w) (is (adaptationMatrix (gains w))) invalidWhitePoint
 
-abbrev pub adaptation : Option (List (List Float)) → Adaptation
-adaptation (some m) = Adapted
-adaptation none = InvalidWhitePoint
-
--- what the output holds after the call, where it held `out` before
-abbrev pub adaptedOr : List (List Float) → Option (List (List Float)) → List (List Float)
-adaptedOr out (some m) = m
-adaptedOr out none = out
-
--- the number of an answer on the refusal list of 01
-abbrev pub adaptationRefusal : Adaptation → Option ℕ
-adaptationRefusal Adapted = none
-adaptationRefusal InvalidWhitePoint = some 4
+-- the value of an answer, which stands in the output, or its number on the refusal list of 01
+abbrev pub checkedAdaptation : Adaptation → List (List Float) → Checked (List (List Float))
+checkedAdaptation Adapted out = is out
+checkedAdaptation InvalidWhitePoint out = invalidWhitePoint
 
 -- ---- the matrix of the element `chad`
 
@@ -94,9 +88,5 @@ adaptationRefusal InvalidWhitePoint = some 4
 unfoldable pub narrowed : List (List Float) → List (List Float)
 narrowed m = matrix (λ i j. narrow (entry m i j))
 
-abbrev pub narrowedIfAdapted : Option (List (List Float)) → Option (List (List Float))
-narrowedIfAdapted (some m) = some (narrowed m)
-narrowedIfAdapted none = none
-
-unfoldable pub createIccChadMatrix : WhiteXy → Option (List (List Float))
-createIccChadMatrix w = narrowedIfAdapted (adaptToXyzD50 w)
+unfoldable pub chadMatrix : WhiteXy → Checked (List (List Float))
+chadMatrix w = then (adaptToXyzD50 w) (λ m. is (narrowed m))

@@ -1,6 +1,8 @@
 pub mod White
+pub mod GrayWhite
 pub mod Adapt
 pub mod Primaries
-pub mod AnswerLaws
-pub mod ShapeLaws
+pub mod Output
+pub mod OutputLaws
+pub mod WhiteLaws
 pub mod RefusalLaws

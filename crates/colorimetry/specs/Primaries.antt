@@ -1,25 +1,19 @@
 -- From the xy coordinates of three primaries and a white point to the matrix from RGB to XYZ: `primaries_to_xyz`, `primaries_to_xyz_d50`
 -- and `create_icc_rgb_matrix` of api/color.rs. Assumes nothing.
-use Prim.Native.Nat.{ℕ}
 use mathlib.Core.Bool.{cond}
 use mathlib.Core.List.{List, [], _∷_}
-use mathlib.Core.Option.{Option, none, some}
 use lib.Ieee.{Float}
-use Rattle.linalg.specs.Binary64.{_⊖_, one}
+use Rattle.buffer.specs.Checked.{Checked, is, refused, then}
+use Rattle.floats.specs.Binary64.{_⊖_, one}
 use Rattle.linalg.specs.Linalg.{applied, product}
 use Rattle.linalg.specs.Inverse.{singular, inverse}
 use Rattle.color_encoding.specs.declared.WhiteXy.{WhiteXy}
 use Rattle.color_encoding.specs.declared.PrimariesXy.{PrimariesXy}
-use Rattle.colorimetry.specs.White.{inRange, whiteXyz, finiteXyz}
-use Rattle.colorimetry.specs.Adapt.{diagonal, adaptToXyzD50, narrowed}
+use Rattle.color_encoding.specs.Range.{inRange}
+use Rattle.colorimetry.specs.White.{whiteXyz, finiteXyz}
+use Rattle.colorimetry.specs.Adapt.{diagonal, invalidWhitePoint, adaptToXyzD50, narrowed}
 use Rattle.colorimetry.specs.declared.Conversion.{Conversion}
-use Rattle.colorimetry.specs.declared.Conversion.the-variants as C
-
--- what a conversion comes to: a matrix or a refusal
-pub data RgbToXyz : Type 0 where
-  converted : List (List Float) → RgbToXyz
-  invalid-white-point : RgbToXyz
-  inversion-failed : RgbToXyz
+use Rattle.colorimetry.specs.declared.Conversion.the-variants.{Converted, InvalidWhitePoint, MatrixInversionFailed}
 
 -- the columns are x, y and z = 1 - x - y of red, green and blue
 unfoldable pub primariesMatrix : PrimariesXy → List (List Float)
@@ -33,48 +27,27 @@ primariesMatrix p =
 unfoldable pub scaledPrimaries : List (List Float) → List Float → List (List Float)
 scaledPrimaries p white = product p (diagonal (applied (inverse p) white))
 
+-- 6 of the refusal list of 01
+abbrev pub matrixInversionFailed : {A : Type 0} → Checked A
+matrixInversionFailed = refused 6
+
 -- the tests, in their order: the coordinates of the white are in range, the inverse exists, X and Z of the white are finite
-unfoldable pub primariesToXyz : PrimariesXy → WhiteXy → RgbToXyz
+unfoldable pub primariesToXyz : PrimariesXy → WhiteXy → Checked (List (List Float))
 primariesToXyz p w =
     cond (inRange w)
-    (cond (singular (primariesMatrix p)) inversion-failed
-    (cond (finiteXyz (whiteXyz w)) (converted (scaledPrimaries (primariesMatrix p) (whiteXyz w))) invalid-white-point))
-    invalid-white-point
+    (cond (singular (primariesMatrix p)) matrixInversionFailed
+    (cond (finiteXyz (whiteXyz w)) (is (scaledPrimaries (primariesMatrix p) (whiteXyz w))) invalidWhitePoint))
+    invalidWhitePoint
 
--- first the conversion, then the adaptation: the first refusal counts
-abbrev pub thenAdapted : RgbToXyz → Option (List (List Float)) → RgbToXyz
-thenAdapted (converted m) (some a) = converted (product a m)
-thenAdapted (converted m) none = invalid-white-point
-thenAdapted invalid-white-point a = invalid-white-point
-thenAdapted inversion-failed a = inversion-failed
-
-unfoldable pub primariesToXyzD50 : PrimariesXy → WhiteXy → RgbToXyz
-primariesToXyzD50 p w = thenAdapted (primariesToXyz p w) (adaptToXyzD50 w)
+unfoldable pub primariesToXyzD50 : PrimariesXy → WhiteXy → Checked (List (List Float))
+primariesToXyzD50 p w = then (primariesToXyz p w) (λ m. then (adaptToXyzD50 w) (λ a. is (product a m)))
 
 -- each entry rounded once to f32
-abbrev pub narrowedIfConverted : RgbToXyz → RgbToXyz
-narrowedIfConverted (converted m) = converted (narrowed m)
-narrowedIfConverted invalid-white-point = invalid-white-point
-narrowedIfConverted inversion-failed = inversion-failed
+unfoldable pub createIccRgbMatrix : PrimariesXy → WhiteXy → Checked (List (List Float))
+createIccRgbMatrix p w = then (primariesToXyzD50 p w) (λ m. is (narrowed m))
 
-unfoldable pub createIccRgbMatrix : PrimariesXy → WhiteXy → RgbToXyz
-createIccRgbMatrix p w = narrowedIfConverted (primariesToXyzD50 p w)
-
--- ---- the answer and the output
-
-abbrev pub conversion : RgbToXyz → Conversion
-conversion (converted m) = C.Converted
-conversion invalid-white-point = C.InvalidWhitePoint
-conversion inversion-failed = C.MatrixInversionFailed
-
--- what the output holds after the call, where it held `out` before
-abbrev pub convertedOr : List (List Float) → RgbToXyz → List (List Float)
-convertedOr out (converted m) = m
-convertedOr out invalid-white-point = out
-convertedOr out inversion-failed = out
-
--- the number of an answer on the refusal list of 01
-abbrev pub conversionRefusal : Conversion → Option ℕ
-conversionRefusal C.Converted = none
-conversionRefusal C.InvalidWhitePoint = some 4
-conversionRefusal C.MatrixInversionFailed = some 6
+-- the value of an answer, which stands in the output, or its number on the refusal list of 01
+abbrev pub checkedConversion : Conversion → List (List Float) → Checked (List (List Float))
+checkedConversion Converted out = is out
+checkedConversion InvalidWhitePoint out = invalidWhitePoint
+checkedConversion MatrixInversionFailed out = matrixInversionFailed

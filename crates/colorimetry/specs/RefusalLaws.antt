@@ -1,61 +1,63 @@
--- A white that the adaptation takes is refused by no conversion: after `create_icc_chad_matrix` accepts, `create_icc_rgb_matrix` can refuse
--- only for its inverse. Assumes nothing.
-use mathlib.Core.Path.{_≡_, refl, sym, subst}
-use mathlib.Core.Bool.{Bool, true, false, _&&_, not, cond}
-use mathlib.Core.List.{List}
-use mathlib.Core.Option.{none, some}
-use lib.Dec.{T}
-use lib.Ieee.{Float}
+-- With which numbers the definitions refuse. Assumes nothing.
+use Prim.Native.Nat.{ℕ}
+use mathlib.Core.Path.{_≡_}
+use mathlib.Core.Bool.{Bool, true, false, cond}
+use mathlib.Core.List.{List, [], _∷_}
+use lib.Ieee.{lt}
+use Rattle.floats.specs.Abs.{abs}
 use Rattle.linalg.specs.Inverse.{singular}
 use Rattle.color_encoding.specs.declared.WhiteXy.{WhiteXy}
 use Rattle.color_encoding.specs.declared.PrimariesXy.{PrimariesXy}
-use Rattle.colorimetry.specs.White.{inRange, whiteXyz, finiteXyz}
-use Rattle.colorimetry.specs.Adapt.{lms, hasZero, allFinite, gains, adaptable, adaptationMatrix, adaptToXyzD50, narrowedIfAdapted, createIccChadMatrix}
-use Rattle.colorimetry.specs.Primaries.{RgbToXyz, converted, invalid-white-point, inversion-failed, primariesMatrix, thenAdapted, scaledPrimaries, primariesToXyz, primariesToXyzD50, narrowedIfConverted, createIccRgbMatrix}
+use Rattle.buffer.specs.Checked.{Checked, is, refused, then, each}
+use Rattle.color_encoding.specs.Range.{inRange}
+use Rattle.colorimetry.specs.White.{whiteXyz, finiteXyz}
+use Rattle.colorimetry.specs.GrayWhite.{epsilon, cieXyzFromWhiteCieXy}
+use Rattle.colorimetry.specs.Adapt.{adaptable, adaptToXyzD50, chadMatrix}
+use Rattle.colorimetry.specs.Primaries.{primariesMatrix, primariesToXyz, primariesToXyzD50, createIccRgbMatrix}
 
--- anything but a refusal of the white
-abbrev Taken : RgbToXyz → Type 0
-Taken (converted m) = Unit {0}
-Taken invalid-white-point = ⊥
-Taken inversion-failed = Unit {0}
+-- where it refuses, the number has P
+abbrev pub Refusing : {A : Type 0} → (ℕ → Type 0) → Checked A → Type 0
+Refusing P (is a) = Unit {0}
+Refusing P (refused n) = P n
 
-first-two : (a b c d : Bool) → (a && b && not c && d) ≡ true → (a ≡ true) × (b ≡ true)
-first-two true true c d e = (refl, refl)
-first-two true false c d e = absurd (subst T (sym e) tt)
-first-two false b c d e = absurd (subst T (sym e) tt)
+module _ (P : ℕ → Type 0) where
+  pub refusing : {A : Type 0} {c : Checked A} {n : ℕ} → Refusing P c → c ≡ refused n → P n
+  refusing r e = rw e at r
 
-tested : (w : WhiteXy) {k : List (List Float)} → createIccChadMatrix w ≡ some k → adaptable w ≡ true
-unfolding createIccChadMatrix adaptToXyzD50
-tested w e = either (adaptable w) (adaptationMatrix (gains w)) e
-  where
-    either : (b : Bool) (x : List (List Float)) {k : List (List Float)} → narrowedIfAdapted (cond b (some x) none) ≡ some k → b ≡ true
-    either true x e = refl
-    either false x e = cc
+  pub by-then : {A B : Type 0} (c : Checked A) (f : A → Checked B) → Refusing P c → ((a : A) → Refusing P (f a)) → Refusing P (then c f)
+  by-then (is a) f n m = m a
+  by-then (refused k) f n m = n
 
-to-xyz : (p : PrimariesXy) (w : WhiteXy) → adaptable w ≡ true → Taken (primariesToXyz p w)
-unfolding adaptable primariesToXyz
-to-xyz p w e =
-    let tests = first-two (inRange w) (finiteXyz (whiteXyz w)) (hasZero (lms (whiteXyz w))) (allFinite (gains w)) e in
-    rw (tests .0, tests .1) (either (singular (primariesMatrix p)) (scaledPrimaries (primariesMatrix p) (whiteXyz w)))
-  where
-    either : (b : Bool) (m : List (List Float)) → Taken (cond b inversion-failed (converted m))
-    either true m = tt
-    either false m = tt
+  pub by-each : {A B : Type 0} (f : A → Checked B) → ((a : A) → Refusing P (f a)) → (xs : List A) → Refusing P (each f xs)
+  by-each f m [] = tt
+  by-each f m (x ∷ xs) = by-then (f x) _ (m x) (λ y. by-then (each f xs) _ (by-each f m xs) (λ ys. tt))
 
-to-d50 : (x : RgbToXyz) (a : List (List Float)) → Taken x → Taken (thenAdapted x (some a))
-to-d50 (converted m) a t = tt
-to-d50 invalid-white-point a t = t
-to-d50 inversion-failed a t = tt
+  pub by-cond : {A : Type 0} (b : Bool) (c d : Checked A) → Refusing P c → Refusing P d → Refusing P (cond b c d)
+  by-cond true c d p q = p
+  by-cond false c d p q = q
 
-to-f32 : (x : RgbToXyz) → Taken x → Taken (narrowedIfConverted x)
-to-f32 (converted m) t = tt
-to-f32 invalid-white-point t = t
-to-f32 inversion-failed t = tt
+  pub by-white : P 3 → (w : WhiteXy) → Refusing P (cieXyzFromWhiteCieXy w)
+  unfolding cieXyzFromWhiteCieXy
+  by-white three w = by-cond (lt (abs (w .wy)) epsilon) _ _ three tt
 
-pub white-once :
-    (p : PrimariesXy) (w : WhiteXy) {k : List (List Float)} → createIccChadMatrix w ≡ some k → createIccRgbMatrix p w ≡ invalid-white-point → ⊥
-unfolding createIccRgbMatrix primariesToXyzD50 adaptToXyzD50
-white-once p w h e =
-    let t = tested w h in
-    let taken : Taken (primariesToXyzD50 p w) = rw t (to-d50 (primariesToXyz p w) (adaptationMatrix (gains w)) (to-xyz p w t)) in
-    subst Taken e (to-f32 (primariesToXyzD50 p w) taken)
+  module _ (four : P 4) (w : WhiteXy) where
+    by-adaptation : Refusing P (adaptToXyzD50 w)
+    unfolding adaptToXyzD50
+    by-adaptation = by-cond (adaptable w) _ _ tt four
+
+    pub by-chad : Refusing P (chadMatrix w)
+    unfolding chadMatrix
+    by-chad = by-then (adaptToXyzD50 w) _ by-adaptation (λ m. tt)
+
+    module _ (six : P 6) (p : PrimariesXy) where
+      by-primaries : Refusing P (primariesToXyz p w)
+      unfolding primariesToXyz
+      by-primaries = by-cond (inRange w) _ _ (by-cond (singular (primariesMatrix p)) _ _ six (by-cond (finiteXyz (whiteXyz w)) _ _ tt four)) four
+
+      by-primaries-d50 : Refusing P (primariesToXyzD50 p w)
+      unfolding primariesToXyzD50
+      by-primaries-d50 = by-then (primariesToXyz p w) _ by-primaries (λ m. by-then (adaptToXyzD50 w) _ by-adaptation (λ a. tt))
+
+      pub by-rgb-matrix : Refusing P (createIccRgbMatrix p w)
+      unfolding createIccRgbMatrix
+      by-rgb-matrix = by-then (primariesToXyzD50 p w) _ by-primaries-d50 (λ m. tt)

@@ -3,17 +3,17 @@
 
 use color_encoding::PrimariesXy;
 use color_encoding::WhiteXy;
-use linalg::Inversion;
 use linalg::Matrix3x3;
 use linalg::Vector3;
 ghost use mathlib.Core.Path.{_≡_};
-ghost use lib.Ieee.{lt};
-ghost use Rattle.linalg.specs.Binary64.{abs};
-ghost use Rattle.linalg.specs.Linalg.{three, component};
+ghost use Rattle.linalg.specs.Linalg.{three, component, rows, columns};
 ghost use Rattle.numbers.specs.Narrow.{narrow};
-ghost use Rattle.colorimetry.specs.White.{inRange, whiteXyz, finite, finiteXyz, cieXyzFromWhiteCieXy};
-ghost use Rattle.colorimetry.specs.Adapt.{diagonal, hasZero, lms, adaptationMatrix, adaptToXyzD50, adaptation, adaptedOr, narrowed, createIccChadMatrix};
-ghost use Rattle.colorimetry.specs.Primaries.{primariesMatrix, primariesToXyz, primariesToXyzD50, createIccRgbMatrix, conversion, convertedOr};
+ghost use Rattle.color_encoding.specs.Range.{inRange};
+ghost use Rattle.colorimetry.specs.White.{whiteXyz, finite, finiteXyz};
+ghost use Rattle.colorimetry.specs.GrayWhite.{cieXyzFromWhiteCieXy, checkedWhiteXyz};
+ghost use Rattle.colorimetry.specs.Adapt.{diagonal, hasZero, lms, adaptationMatrix, adaptToXyzD50, checkedAdaptation, narrowed, chadMatrix};
+ghost use Rattle.colorimetry.specs.Primaries.{primariesMatrix, primariesToXyz, primariesToXyzD50, createIccRgbMatrix, checkedConversion};
+ghost use Rattle.colorimetry.specs.Output.{Outputs};
 
 // Bradford matrices for chromatic adaptation.
 const K_BRADFORD: Matrix3x3 = [
@@ -107,7 +107,7 @@ fn adaptation_matrix(gains: Vector3) -> Matrix3x3
 
 // The matrix that adapts XYZ from a white to D50, in `out`; `out` is unchanged where the white is refused.
 pub fn adapt_to_xyz_d50(white: WhiteXy, out: &mut Matrix3x3) -> Adaptation
-    ensures { λ r. ⌜ (r ≡ adaptation (adaptToXyzD50 white)) × (now (out .exit) ≡ adaptedOr (now (out .entry)) (adaptToXyzD50 white)) ⌝ }
+    ensures { λ r. ⌜ Outputs (adaptToXyzD50 white) (checkedAdaptation r (now (out .exit))) (now (out .entry)) (now (out .exit)) ⌝ }
 {
     if !in_range(white) {
         return Adaptation::InvalidWhitePoint;
@@ -153,26 +153,24 @@ fn primaries_matrix(primaries: PrimariesXy) -> Matrix3x3
 
 // The matrix from RGB to XYZ relative to the white, in `out`; `out` is unchanged where the white or the primaries are refused.
 pub fn primaries_to_xyz(primaries: PrimariesXy, white: WhiteXy, out: &mut Matrix3x3) -> Conversion
-    ensures { λ r. ⌜ (r ≡ conversion (primariesToXyz primaries white)) × (now (out .exit) ≡ convertedOr (now (out .entry)) (primariesToXyz primaries white)) ⌝ }
+    ensures { λ r. ⌜ Outputs (primariesToXyz primaries white) (checkedConversion r (now (out .exit))) (now (out .entry)) (now (out .exit)) ⌝ }
 {
     if !in_range(white) {
         return Conversion::InvalidWhitePoint;
     }
     let p_matrix = primaries_matrix(primaries);
-    let mut p_inv_matrix = [[0.0f64; 3]; 3];
-    match linalg::inv_3x3_matrix(p_matrix, &mut p_inv_matrix) {
-        Inversion::Singular => Conversion::MatrixInversionFailed,
-        Inversion::Inverted => {
-            let w = white_xyz(white);
-            if !finite_xyz(w) {
-                return Conversion::InvalidWhitePoint;
-            }
-            let s_vec = linalg::mul_3x3_vector(p_inv_matrix, w);
-            let result_matrix = linalg::mul_3x3_matrix(p_matrix, diagonal(s_vec));
-            *out = result_matrix;
-            Conversion::Converted
-        }
+    if linalg::is_singular(p_matrix) {
+        return Conversion::MatrixInversionFailed;
     }
+    let p_inv_matrix = linalg::inv_3x3_matrix(p_matrix);
+    let w = white_xyz(white);
+    if !finite_xyz(w) {
+        return Conversion::InvalidWhitePoint;
+    }
+    let s_vec = linalg::mul_3x3_vector(p_inv_matrix, w);
+    let result_matrix = linalg::mul_3x3_matrix(p_matrix, diagonal(s_vec));
+    *out = result_matrix;
+    Conversion::Converted
 }
 
 // The matrix from RGB to XYZ relative to D50, in `out`; `out` is unchanged where the white or the primaries are refused.
@@ -181,7 +179,7 @@ pub fn primaries_to_xyz_d50(
     white: WhiteXy,
     out: &mut Matrix3x3,
 ) -> Conversion
-    ensures { λ r. ⌜ (r ≡ conversion (primariesToXyzD50 primaries white)) × (now (out .exit) ≡ convertedOr (now (out .entry)) (primariesToXyzD50 primaries white)) ⌝ }
+    ensures { λ r. ⌜ Outputs (primariesToXyzD50 primaries white) (checkedConversion r (now (out .exit))) (now (out .entry)) (now (out .exit)) ⌝ }
 {
     let mut rgb_to_xyz = [[0.0f64; 3]; 3];
     match primaries_to_xyz(primaries, white, &mut rgb_to_xyz) {
@@ -223,15 +221,15 @@ fn narrowed(matrix: Matrix3x3) -> [[f32; 3]; 3]
 }
 
 // The adaptation to D50, each entry rounded once to f32, in `out`; `out` is unchanged where the white is refused.
-pub fn create_icc_chad_matrix(white: WhiteXy, out: &mut [[f32; 3]; 3]) -> Adaptation
-    ensures { λ r. ⌜ (r ≡ adaptation (createIccChadMatrix white)) × (now (out .exit) ≡ adaptedOr (now (out .entry)) (createIccChadMatrix white)) ⌝ }
+pub fn chad_matrix(white: WhiteXy, out: &mut [[f32; 3]; 3]) -> Adaptation
+    ensures { λ r. ⌜ Outputs (chadMatrix white) (checkedAdaptation r (now (out .exit))) (now (out .entry)) (now (out .exit)) ⌝ }
 {
-    let mut chad_matrix_f64 = [[0.0f64; 3]; 3];
-    match adapt_to_xyz_d50(white, &mut chad_matrix_f64) {
+    let mut matrix = [[0.0f64; 3]; 3];
+    match adapt_to_xyz_d50(white, &mut matrix) {
         Adaptation::InvalidWhitePoint => Adaptation::InvalidWhitePoint,
         Adaptation::Adapted => {
-            let chad_matrix = narrowed(chad_matrix_f64);
-            *out = chad_matrix;
+            let result = narrowed(matrix);
+            *out = result;
             Adaptation::Adapted
         }
     }
@@ -243,7 +241,7 @@ pub fn create_icc_rgb_matrix(
     white: WhiteXy,
     out: &mut [[f32; 3]; 3],
 ) -> Conversion
-    ensures { λ r. ⌜ (r ≡ conversion (createIccRgbMatrix primaries white)) × (now (out .exit) ≡ convertedOr (now (out .entry)) (createIccRgbMatrix primaries white)) ⌝ }
+    ensures { λ r. ⌜ Outputs (createIccRgbMatrix primaries white) (checkedConversion r (now (out .exit))) (now (out .entry)) (now (out .exit)) ⌝ }
 {
     let mut result_f64 = [[0.0f64; 3]; 3];
     match primaries_to_xyz_d50(primaries, white, &mut result_f64) {
@@ -257,20 +255,47 @@ pub fn create_icc_rgb_matrix(
     }
 }
 
-// Whether the magnitude of x is below the bound.
-fn abs_below(x: f32, bound: f32) -> bool
-    ensures { λ r. ⌜ r ≡ lt (abs x) bound ⌝ }
+// The nine entries, row by row.
+pub fn rows(m: [[f32; 3]; 3]) -> [f32; 9]
+    ensures { λ r. ⌜ r ≡ rows m ⌝ }
 {
-    if x < 0.0 { -x < bound } else { x < bound }
+    [
+        m[0][0],
+        m[0][1],
+        m[0][2],
+        m[1][0],
+        m[1][1],
+        m[1][2],
+        m[2][0],
+        m[2][1],
+        m[2][2],
+    ]
+}
+
+// The nine entries, column by column.
+pub fn columns(m: [[f32; 3]; 3]) -> [f32; 9]
+    ensures { λ r. ⌜ r ≡ columns m ⌝ }
+{
+    [
+        m[0][0],
+        m[1][0],
+        m[2][0],
+        m[0][1],
+        m[1][1],
+        m[2][1],
+        m[0][2],
+        m[1][2],
+        m[2][2],
+    ]
 }
 
 // The XYZ of a gray profile's white, wholly in f32.
 pub fn cie_xyz_from_white_cie_xy(white: WhiteXy) -> WhiteXyz
-    ensures { λ r. ⌜ r ≡ cieXyzFromWhiteCieXy white ⌝ }
+    ensures { λ r. ⌜ checkedWhiteXyz r ≡ cieXyzFromWhiteCieXy white ⌝ }
 {
     let wx = white.wx;
     let wy = white.wy;
-    if abs_below(wy, 1e-12) {
+    if floats::binary32::abs_below(wy, 1e-12) {
         return WhiteXyz::InvalidWhitePointY;
     }
     let factor = 1.0 / wy;

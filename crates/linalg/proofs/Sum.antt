@@ -4,7 +4,7 @@ use mathlib.Core.Path.{_≡_, refl, ap, _∙_}
 use Prim.Native.Nat.{ℕ, zero, suc, _+_, _≤_, _<_}
 use native.Mathlib.Omega.{arith}
 use lib.Ieee.{Float}
-use Rattle.linalg.specs.Binary64.{_⊕_}
+use Rattle.floats.specs.Binary64.{_⊕_}
 
 -- the sum of the first i of one to three terms
 abbrev pub summed : (ℕ → Float) → ℕ → Float

@@ -1,14 +1,12 @@
 -- The inverse of a matrix by its cofactors, as util/linalg.rs computes it. Assumes nothing.
 use Prim.Native.Nat.{ℕ, _+_, _%_}
 use mathlib.Core.Bool.{Bool, cond}
-use mathlib.Core.Option.{Option, none, some}
 use mathlib.Core.List.{List}
 use lib.Dec.{eqb}
 use lib.Ieee.{Float, binary64, ofBits, neg, lt}
-use Rattle.linalg.specs.Binary64.{_⊖_, _⊗_, _⊘_, one, abs}
+use Rattle.floats.specs.Abs.{abs}
+use Rattle.floats.specs.Binary64.{_⊖_, _⊗_, _⊘_, one}
 use Rattle.linalg.specs.Linalg.{matrix, row, entry, transpose, dot}
-use Rattle.linalg.specs.declared.Inversion.{Inversion}
-use Rattle.linalg.specs.declared.Inversion.the-variants.{Inverted, Singular}
 
 -- the determinant of the matrix whose rows are a, b and c, d
 abbrev pub det2x2 : Float → Float → Float → Float → Float
@@ -50,16 +48,3 @@ singular m = lt (abs (determinant m)) epsilon
 -- the adjugate, each entry multiplied by the reciprocal of the determinant
 unfoldable pub inverse : List (List Float) → List (List Float)
 inverse m = matrix (λ r c. entry (adjugate m) r c ⊗ (one ⊘ determinant m))
-
--- what `inv_3x3_matrix` answers
-abbrev pub inversion : List (List Float) → Inversion
-inversion m = cond (singular m) Singular Inverted
-
--- and what its output holds after the call, where it held `out` before
-abbrev pub inverseOr : List (List Float) → List (List Float) → List (List Float)
-inverseOr out m = cond (singular m) out (inverse m)
-
--- the number of an answer on the refusal list of 01
-abbrev pub inversionRefusal : Inversion → Option ℕ
-inversionRefusal Inverted = none
-inversionRefusal Singular = some 6

@@ -3,10 +3,10 @@
 -- The Rust's `sum` starts from a zero, a sum here from its first term. That can change only the sign of a sum that is zero, which reaches no
 -- byte of a profile. Assumes nothing.
 use Prim.Native.Nat.{ℕ}
-use mathlib.Core.List.{List, [], _∷_}
+use mathlib.Core.List.{List, [], _∷_, _++_}
 use lib.ListN.{getD}
 use lib.Ieee.{Float, nan}
-use Rattle.linalg.specs.Binary64.{_⊕_, _⊗_}
+use Rattle.floats.specs.Binary64.{_⊕_, _⊗_}
 
 -- Rust's `from_fn`, at three elements
 abbrev pub three : {A : Type 0} → (ℕ → A) → List A
@@ -30,6 +30,13 @@ column m j = three (λ i. entry m i j)
 
 abbrev pub transpose : List (List Float) → List (List Float)
 transpose m = three (column m)
+
+-- the nine entries, row by row and column by column
+abbrev pub rows : List (List Float) → List Float
+rows m = three (entry m 0) ++ three (entry m 1) ++ three (entry m 2)
+
+abbrev pub columns : List (List Float) → List Float
+columns m = column m 0 ++ column m 1 ++ column m 2
 
 -- the sum of the products of like components, taken left to right
 unfoldable pub dot : List Float → List Float → Float

@@ -2,10 +2,9 @@
 
 ghost use mathlib.Core.Path.{_≡_};
 ghost use Prim.Native.Nat.{_<_};
-ghost use lib.Ieee.{lt};
-ghost use Rattle.linalg.specs.Binary64.{abs, _⊗_};
+ghost use Rattle.floats.specs.Binary64.{_⊗_};
 ghost use Rattle.linalg.specs.Linalg.{three, component, entry, column, dot, applied, product};
-ghost use Rattle.linalg.specs.Inverse.{det2x2, lower, upper, minor, cofactor, cofactors, inversion, inverseOr};
+ghost use Rattle.linalg.specs.Inverse.{det2x2, lower, upper, minor, cofactor, cofactors, determinant, singular, inverse};
 
 pub type Matrix3x3 = [[f64; 3]; 3];
 
@@ -148,30 +147,26 @@ fn scaled_transpose(m: Matrix3x3, factor: f64) -> Matrix3x3
     result
 }
 
-// Whether the magnitude of x is below the bound.
-fn abs_below(x: f64, bound: f64) -> bool
-    ensures { λ r. ⌜ r ≡ lt (abs x) bound ⌝ }
+// Expanded along the first row.
+fn determinant(m: Matrix3x3) -> f64
+    ensures { λ r. ⌜ r ≡ determinant m ⌝ }
 {
-    if x < 0.0 { -x < bound } else { x < bound }
+    dot(m[0], cofactor_row(m, 0))
 }
 
-pub enum Inversion {
-    Inverted,
-    // The determinant is too near to zero.
-    Singular,
+// Whether the determinant is too near to zero for an inverse; that of a NaN is not.
+pub fn is_singular(m: Matrix3x3) -> bool
+    ensures { λ r. ⌜ r ≡ singular m ⌝ }
+{
+    floats::binary64::abs_below(determinant(m), 1e-12)
 }
 
-// The inverse, in `out`; `out` is unchanged where the matrix is singular.
-pub fn inv_3x3_matrix(m: Matrix3x3, out: &mut Matrix3x3) -> Inversion
-    ensures { λ r. ⌜ (r ≡ inversion m) × (now (out .exit) ≡ inverseOr (now (out .entry)) m) ⌝ }
+// The inverse of a matrix that is not singular; for one that is, the same operations.
+pub fn inv_3x3_matrix(m: Matrix3x3) -> Matrix3x3
+    ensures { λ r. ⌜ r ≡ inverse m ⌝ }
 {
     let cofactors = cofactor_matrix(m);
     let det = dot(m[0], cofactors[0]);
-    if abs_below(det, 1e-12) {
-        return Inversion::Singular;
-    }
     let inv_det = 1.0 / det;
-    let inverse = scaled_transpose(cofactors, inv_det);
-    *out = inverse;
-    Inversion::Inverted
+    scaled_transpose(cofactors, inv_det)
 }

@@ -3,17 +3,19 @@ use Prim.Native.Nat.{ℕ, _-_}
 use mathlib.Core.Path.{_≡_, refl, sym, ap, ap₂, _∙_}
 use mathlib.Core.Bool.{Bool, true, false}
 use mathlib.Core.List.{List}
-use mathlib.Core.Option.{none}
 use native.Mathlib.Nat.{lt-of-lt-of-le}
 use native.Mathlib.Omega.{arith}
 use borrow.Author.Tests.{not-true, not-false}
 use lib.Ieee.{Float}
-use Rattle.linalg.specs.Binary64.{_⊘_}
+use Rattle.buffer.specs.Checked.{is, refused}
+use Rattle.floats.specs.Binary64.{_⊘_}
 use Rattle.linalg.specs.Linalg.{three, component}
 use Rattle.linalg.specs.FillLaws.{full}
 use Rattle.color_encoding.specs.declared.WhiteXy.{WhiteXy}
-use Rattle.colorimetry.specs.White.{inRange, whiteXyz, finiteXyz}
+use Rattle.color_encoding.specs.Range.{inRange}
+use Rattle.colorimetry.specs.White.{whiteXyz, finiteXyz}
 use Rattle.colorimetry.specs.Adapt.{hasZero, allFinite, lms, gains, adaptable, adaptationMatrix, adaptToXyzD50}
+use Rattle.colorimetry.specs.OutputLaws.{outputs-value, outputs-refusal}
 use Rattle.colorimetry.proofs.Gains.{Gained, gain, stops, passes}
 use borrow.Author.Needs.{needs}
 use Rattle.colorimetry.proofs.adapt_to_xyz_d50.Statement.{statement}
@@ -30,9 +32,9 @@ abbrev μ-loop : tie.MeasureT-loop
 
 -- ---- what the tests and the calls say of the white
 
-refused : (w : WhiteXy) → adaptable w ≡ false → adaptToXyzD50 w ≡ none
+not-adapted : (w : WhiteXy) → adaptable w ≡ false → adaptToXyzD50 w ≡ refused 4
 unfolding adaptToXyzD50
-refused w e = simp e
+not-adapted w e = simp e
 
 ranged : (c : tie.Else1 Inv-loop μ-loop) → inRange (c .before .before .args .white) ≡ true
 ranged c = sym (c .before .in-range .ensures) ∙ not-false _ (c .if1 .left)
@@ -82,9 +84,8 @@ in-range-requires c κs = search needs
 returns : tie.Need-returns Inv-loop μ-loop
 unfolding adaptable
 returns c =
-    let e : adaptToXyzD50 (c .before .before .args .white) ≡ none =
-    refused _ (simp (sym (c .before .in-range .ensures) ∙ not-true _ (c .if1 .taken))) in
-    (simp e, simp e)
+    let e : adaptable (c .before .before .args .white) ≡ false = simp (sym (c .before .in-range .ensures) ∙ not-true _ (c .if1 .taken)) in
+    outputs-refusal (not-adapted _ e)
 
 white-xyz-requires : tie.Need-white-xyz-requires Inv-loop μ-loop
 white-xyz-requires c κs = search needs
@@ -95,9 +96,9 @@ finite-xyz-requires c κs = search needs
 returns-2 : tie.Need-returns-2 Inv-loop μ-loop
 unfolding adaptable
 returns-2 c =
-    let e : adaptToXyzD50 (c .before .before .before .before .before .args .white) ≡ none =
-    refused _ (simp (ranged (c .before .before .before), sym (finite-is (c .before)) ∙ not-true _ (c .if2 .taken))) in
-    (simp e, simp e)
+    let e : adaptable (c .before .before .before .before .before .args .white) ≡ false =
+    simp (ranged (c .before .before .before), sym (finite-is (c .before)) ∙ not-true _ (c .if2 .taken)) in
+    outputs-refusal (not-adapted _ e)
 
 lms-requires : tie.Need-lms-requires Inv-loop μ-loop
 lms-requires c κs = search needs
@@ -112,14 +113,13 @@ returns-3 : tie.Need-returns-3 Inv-loop μ-loop
 unfolding adaptable
 returns-3 c =
     let xyz = c .before .before .before .before in
-    let e : adaptToXyzD50 (xyz .before .before .before .before .before .args .white) ≡ none =
-    refused _
-    (simp (
+    let e : adaptable (xyz .before .before .before .before .before .args .white) ≡ false =
+    simp (
       ranged (xyz .before .before .before),
       sym (finite-is (xyz .before)) ∙ not-false _ (xyz .if2 .left),
       sym (zero-is (c .before)) ∙ c .if3 .taken,
-    )) in
-    (simp e, simp e)
+    ) in
+    outputs-refusal (not-adapted _ e)
 
 loop-holds : tie.Need-loop-holds Inv-loop μ-loop
 loop-holds c = record { filled = search needs; all = λ k l. absurd (omega arith) }
@@ -143,11 +143,9 @@ returns-4 : tie.Need-returns-4 Inv-loop μ-loop
 returns-4 c =
     let turn = c .before .before in
     let start = turn .before .before in
-    let e : adaptToXyzD50 (start .before .before .before .before .before .before .before .before .before .args .white) ≡ none =
-    refused _
-    (tested start
+    let e = not-adapted _ (tested start
     (ap allFinite (sym (quotients start)) ∙ stops (quotient (start .before .before .lms2 .result) (start .before .before .before .lms .result)) (turn .before .loop .i) (turn .loop-test .taken) (sym (c .before .is-finite .ensures) ∙ not-true _ (c .if4 .taken)))) in
-    (simp e, simp e)
+    outputs-refusal e
 
 mul-gains : tie.Need-mul-gains Inv-loop μ-loop
 mul-gains c = search needs
@@ -178,7 +176,8 @@ returns-5 c =
     let e =
     tested start
     (ap allFinite (sym (quotients start)) ∙ passes (quotient (start .before .before .lms2 .result) (start .before .before .before .lms .result)) (λ k l. inv .all k (lt-of-lt-of-le l (end .loop-test .left)))) in
-    (simp e, simp e (c .adaptation-matrix .ensures ∙ ap adaptationMatrix (full (inv .filled) (end .loop-test .left) ∙ quotients start)))
+    let matrix = c .adaptation-matrix .ensures ∙ ap adaptationMatrix (full (inv .filled) (end .loop-test .left) ∙ quotients start) in
+    outputs-value (simp e (ap is (sym matrix)))
 
 pub adapt-to-xyz-d50-spec : {M : Type 1} → statement M
 adapt-to-xyz-d50-spec =

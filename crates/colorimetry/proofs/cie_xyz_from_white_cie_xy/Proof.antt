@@ -1,6 +1,6 @@
 -- `cie_xyz_from_white_cie_xy` meets its contract by what `abs_below` ensures.
 use mathlib.Core.Path.{sym, _∙_}
-use Rattle.colorimetry.specs.White.{cieXyzFromWhiteCieXy}
+use Rattle.colorimetry.specs.GrayWhite.{cieXyzFromWhiteCieXy}
 use borrow.Author.Needs.{needs}
 use Rattle.colorimetry.proofs.cie_xyz_from_white_cie_xy.Statement.{statement}
 use Rattle.colorimetry.proofs.cie_xyz_from_white_cie_xy.Tie as tie

@@ -1,7 +1,9 @@
--- `create_icc_rgb_matrix` meets its contract: what `primaries_to_xyz_d50` answers tells its case (`AnswerLaws`).
-use mathlib.Core.Path.{_≡_}
-use Rattle.colorimetry.specs.Primaries.{converted, invalid-white-point, inversion-failed, primariesToXyzD50, createIccRgbMatrix}
-use Rattle.colorimetry.specs.AnswerLaws.{converted-if, invalid-white-point-if, inversion-failed-if}
+-- `create_icc_rgb_matrix` meets its contract: what `primaries_to_xyz_d50` answers tells its case.
+use mathlib.Core.Path.{_≡_, sym, ap}
+use Rattle.buffer.specs.Checked.{is}
+use Rattle.colorimetry.specs.Adapt.{invalidWhitePoint}
+use Rattle.colorimetry.specs.Primaries.{matrixInversionFailed, primariesToXyzD50, createIccRgbMatrix, checkedConversion}
+use Rattle.colorimetry.specs.OutputLaws.{outputs-value, outputs-refusal, expected-if}
 use borrow.Author.Needs.{needs}
 use Rattle.colorimetry.proofs.create_icc_rgb_matrix.Statement.{statement}
 use Rattle.colorimetry.proofs.create_icc_rgb_matrix.Tie as tie
@@ -26,18 +28,18 @@ unfolding createIccRgbMatrix
 returns c =
     let call = c .before .before in
     let args = call .before .before .args in
-    let e : primariesToXyzD50 (args .primaries) (args .white) ≡ invalid-white-point =
-    invalid-white-point-if _ _ (call .primaries-to-xyz-d50 .ensures) (c .enum-told .given .1) in
-    (simp e, simp e)
+    let e : primariesToXyzD50 (args .primaries) (args .white) ≡ invalidWhitePoint =
+    expected-if checkedConversion (call .primaries-to-xyz-d50 .ensures) (c .enum-told .given .1) in
+    outputs-refusal (simp e)
 
 returns-2 : tie.Need-returns-2
 unfolding createIccRgbMatrix
 returns-2 c =
     let call = c .before .before in
     let args = call .before .before .args in
-    let e : primariesToXyzD50 (args .primaries) (args .white) ≡ inversion-failed =
-    inversion-failed-if _ _ (call .primaries-to-xyz-d50 .ensures) (c .enum-told2 .given .1) in
-    (simp e, simp e)
+    let e : primariesToXyzD50 (args .primaries) (args .white) ≡ matrixInversionFailed =
+    expected-if checkedConversion (call .primaries-to-xyz-d50 .ensures) (c .enum-told2 .given .1) in
+    outputs-refusal (simp e)
 
 returns-3 : tie.Need-returns-3
 unfolding createIccRgbMatrix
@@ -45,9 +47,9 @@ returns-3 c =
     let told = c .before in
     let call = told .before .before in
     let args = call .before .before .args in
-    let e : primariesToXyzD50 (args .primaries) (args .white) ≡ converted (call .primaries-to-xyz-d50 .last .1 .1 .0) =
-    converted-if _ _ (call .primaries-to-xyz-d50 .ensures) (told .enum-told3 .given .1) in
-    (simp e, simp e (c .narrowed .ensures))
+    let e : primariesToXyzD50 (args .primaries) (args .white) ≡ is (call .primaries-to-xyz-d50 .last .1 .1 .0) =
+    expected-if checkedConversion (call .primaries-to-xyz-d50 .ensures) (told .enum-told3 .given .1) in
+    outputs-value (simp e (ap is (sym (c .narrowed .ensures))))
 
 pub create-icc-rgb-matrix-spec : {M : Type 1} → statement M
 create-icc-rgb-matrix-spec =

@@ -3,7 +3,7 @@ use mathlib.Core.Path.{_≡_, sym, _∙_}
 use mathlib.Core.Bool.{_||_}
 use mathlib.Core.Logic.{⊎-elim}
 use lib.Ieee.{eq}
-use Rattle.linalg.specs.Binary64.{zero}
+use Rattle.floats.specs.Binary64.{zero}
 use Rattle.linalg.specs.Linalg.{component}
 use Rattle.colorimetry.specs.Adapt.{hasZero}
 use borrow.Author.Needs.{needs}

@@ -3,12 +3,13 @@ use mathlib.Core.Path.{_≡_, sym, _∙_}
 use mathlib.Core.Bool.{_&&_}
 use mathlib.Core.Logic.{⊎-elim}
 use lib.Ieee.{le}
-use Rattle.colorimetry.specs.White.{zero32, one32, inRange}
+use Rattle.floats.specs.Binary32.{zero, one}
+use Rattle.color_encoding.specs.Range.{inRange}
 use Rattle.colorimetry.proofs.in_range.Statement.{statement}
 use Rattle.colorimetry.proofs.in_range.Tie as tie
 
 -- the test of x
-joined : (c : tie.Joined1) → c .if1 .if2 ≡ (le zero32 (c .before .before .args .white .wx) && le (c .before .before .args .white .wx) one32)
+joined : (c : tie.Joined1) → c .if1 .if2 ≡ (le zero (c .before .before .args .white .wx) && le (c .before .before .args .white .wx) one)
 joined c = ⊎-elim (λ w. simp (w .0 .taken) (w .2)) (λ w. simp (w .0 .left) (w .1 ∙ w .0 .left)) (c .if1 .came)
 
 returns : tie.Need-returns

@@ -2,7 +2,7 @@
 use mathlib.Core.Path.{ap₂}
 use mathlib.Core.List.{[], _∷_}
 use lib.Ieee.{Float}
-use Rattle.linalg.specs.Binary64.{_⊖_, _⊘_, one}
+use Rattle.floats.specs.Binary64.{_⊖_, _⊘_, one}
 use Rattle.colorimetry.specs.White.{whiteXyz}
 use borrow.Author.Needs.{needs}
 use Rattle.colorimetry.proofs.white_xyz.Statement.{statement}

@@ -1,6 +1,6 @@
 -- `dot` meets its contract: before turn k the sum has its first k terms (`Summed`).
 use Prim.Native.Nat.{_-_}
-use Rattle.linalg.specs.Binary64.{_⊗_}
+use Rattle.floats.specs.Binary64.{_⊗_}
 use Rattle.linalg.specs.Linalg.{component, dot}
 use Rattle.linalg.proofs.Sum.{Summed, add-term, total}
 use borrow.Author.Needs.{needs}

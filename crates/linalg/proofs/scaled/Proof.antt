@@ -2,7 +2,7 @@
 use Prim.Native.Nat.{_-_}
 use mathlib.Core.Path.{refl}
 use lib.Ieee.{binary64, ofBits}
-use Rattle.linalg.specs.Binary64.{_⊗_}
+use Rattle.floats.specs.Binary64.{_⊗_}
 use Rattle.linalg.specs.Linalg.{component}
 use Rattle.linalg.specs.FillLaws.{Filled, fill, full}
 use borrow.Author.Needs.{needs}

@@ -3,7 +3,7 @@ use Prim.Native.Nat.{_-_}
 use mathlib.Core.Path.{ap, _∙_}
 use mathlib.Core.List.{List}
 use lib.Ieee.{Float, binary64, ofBits}
-use Rattle.linalg.specs.Binary64.{_⊗_}
+use Rattle.floats.specs.Binary64.{_⊗_}
 use Rattle.linalg.specs.Linalg.{three, component, entry}
 use Rattle.linalg.specs.FillLaws.{Filled, fill, full}
 use borrow.Author.Needs.{needs}
