@@ -8,17 +8,19 @@ use Rattle.numbers.specs.Words.{be32}
 use Rattle.numbers.specs.WordsLaws.{length-be32}
 use Rattle.buffer.specs.Buffer.{put}
 use Rattle.buffer.specs.BufferLaws.{length-put, take-put}
+use Rattle.buffer.specs.Bytes.{zeros}
+use Rattle.buffer.specs.Puts.{Puts}
 use Rattle.md5.specs.Md5.{md5}
 use Rattle.md5.specs.Md5Laws.{length-md5}
 use Rattle.profile.specs.Elements.{Slot, table, start, body, bodySize, file, fileLength}
 use Rattle.profile.specs.ElementsLaws.{length-table, length-file}
-use Rattle.profile.specs.Plan.{Plan, kind}
+use Rattle.profile.specs.Plan.{Plan, kind, maxLetters}
 use Rattle.profile.specs.PlanLaws.{Nines, slots-shape, at-most}
-use Rattle.profile.specs.RunsLaws.{next, there, done, runs}
-use Rattle.profile.specs.TagTypes.{join, zeros}
+use Rattle.profile.specs.RunsLaws.{next, done, runs}
+use Rattle.profile.specs.TagTypes.{join}
 use Rattle.profile.specs.Layout.{header, elements, slots, withId, blanked, layout}
 use Rattle.profile.specs.LayoutLaws.{length-header, plan-fours, length-layout, blanked-withId, layout-last}
-use Rattle.profile.specs.Shape.{shape, slotsOf}
+use Rattle.profile.specs.Shape.{shape, slotsOf, maxLength}
 use Rattle.layout.proofs.Front.{again}
 
 -- the header while the intent and the id are zero
@@ -30,16 +32,16 @@ pub record Fits (p : Plan) (n : ℕ) : Type 0 where
   pub header : 132 ≤ start (slotsOf (shape p))
   pub whole : start (slotsOf (shape p)) + bodySize (slotsOf (shape p)) ≤ n
   pub parts : fileLength (slotsOf (shape p)) ≡ start (slotsOf (shape p)) + bodySize (slotsOf (shape p))
-  pub small : fileLength (slotsOf (shape p)) ≤ 1240
+  pub small : fileLength (slotsOf (shape p)) ≤ maxLength
 
-pub fits : (p : Plan) (n : ℕ) → length (layout p) ≤ n → Nines (p .content) → shape p .letters ≤ 372 → Fits p n
+pub fits : (p : Plan) (n : ℕ) → length (layout p) ≤ n → Nines (p .content) → shape p .letters ≤ maxLetters → Fits p n
 unfolding fileLength start slotsOf
 fits p n room h g =
     record {
       header = omega arith;
       whole = rw (length-layout p h) at room;
       parts = refl;
-      small = at-most (shape p .kind) (shape p .letters) (shape p .gamma) (shape p .cicp) g;
+      small = at-most (shape p) g;
     }
 
 -- the file with its three fields blank, from its parts
@@ -66,13 +68,17 @@ unfolding fileLength start
 at-least-header ss = omega arith
 
 -- the header, the table and the elements, as calls leave them, and then the intent and the id
-pub finished : (p : Plan) → Nines (p .content) → (l : List ℕ) {a b d out : List ℕ} {n s : ℕ} → length (layout p) ≤ length l
+pub finished : (p : Plan) → Nines (p .content) → (l : List ℕ) {a b d out : List ℕ} {n s k r : ℕ} → length (layout p) ≤ length l
     → n ≡ fileLength (slotsOf (shape p)) → s ≡ start (slotsOf (shape p)) → a ≡ put l 0 (blank p n) → b ≡ put a 128 (table (slotsOf (shape p)))
-    → d ≡ put b s (body (elements p)) → out ≡ put (put d 64 (be32 (p .intent))) 84 (md5 (take n d)) → out ≡ put l 0 (layout p)
-finished p h l {a} {b} {d} {out} {n} {s} room hn hs ha hb hd ho =
+    → Puts b s k (body (elements p)) r d → out ≡ put (put d 64 (be32 (p .intent))) 84 (md5 (take n d)) → out ≡ put l 0 (layout p)
+finished p h l {a} {b} {d} {out} {n} {s} {k} {r} room hn hs ha hb hd ho =
     let f : List ℕ = blanked (withId (zeros 16) p) in
     let laid : d ≡ put l 0 (join (blank p n ∷ table (slotsOf (shape p)) ∷ body (elements p) ∷ [])) =
-    runs (there (length-header (kind p) _ refl) ha (next refl (hs ∙ sym (table-length p h), hb) (there refl hd done))) (omega arith) .1
+    runs
+    (next (record { size = length-header (kind p) _ refl; place = refl; bytes = ha })
+    (next (record { size = refl; place = hs ∙ sym (table-length p h); bytes = hb })
+    (next hd
+    done))) (omega arith) .bytes
     in
     let whole : length f ≡ n = length-blanked p h ∙ sym hn in
     let at-front : d ≡ put l 0 f = laid ∙ ap (put l 0) (blank-parts p h n hn) in

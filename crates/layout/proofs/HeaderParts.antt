@@ -1,52 +1,51 @@
 -- The header from the parts that the code puts. Assumes nothing.
 use Prim.Native.Nat.{ℕ}
-use mathlib.Core.Path.{_≡_, refl, ap₂, _∙_}
-use mathlib.Core.List.{List, [], _∷_}
+use mathlib.Core.Path.{_≡_, refl, ap, sym, _∙_}
+use mathlib.Core.List.{List, [], _∷_, _++_, append-assoc, append-nil}
 use lib.ListN.{length, length-append}
-use Rattle.numbers.specs.Words.{be16, be32, twosComplement32}
-use Rattle.profile.specs.declared.Kind.{Kind}
-use Rattle.profile.specs.declared.Kind.the-variants.{Gray, Rgb, Xyb}
-use Rattle.profile.specs.TagTypes.{join, zeros, s15Fixed16s}
+use Rattle.numbers.specs.Words.{be16, be32}
+use Rattle.numbers.specs.WordsLaws.{length-be16, length-be32}
+use Rattle.buffer.specs.Bytes.{zeros}
 use Rattle.profile.specs.Layout.{D50, class, space, header}
 use Rattle.profile.specs.Signatures as Sig
+use Rattle.profile.specs.TagTypes.{join, s15Fixed16s}
+use Rattle.profile.specs.TagTypesLaws.{length-s15Fixed16s}
+use Rattle.profile.specs.declared.Kind.{Kind}
+use Rattle.profile.specs.declared.Kind.the-variants.{Gray, Rgb, Xyb}
 
-abbrev pub first-fields : ℕ → List ℕ → List ℕ → List ℕ
-first-fields n a b = join (be32 n ∷ Sig.jxl ∷ (4 ∷ 64 ∷ 0 ∷ 0 ∷ []) ∷ a ∷ b ∷ Sig.XYZ ∷ [])
+abbrev classAndSpace : Kind → List (List ℕ)
+classAndSpace k = Sig.jxl ∷ (4 ∷ 64 ∷ 0 ∷ 0 ∷ []) ∷ class k ∷ space k ∷ Sig.XYZ ∷ []
 
-pub length-first-fields : (n : ℕ) (a b : List ℕ) → length a ≡ 4 → length b ≡ 4 → length (first-fields n a b) ≡ 24
-unfolding join be32
-length-first-fields n a b h g = simp (length-append, h, g)
+abbrev dateAndPlatform : List (List ℕ)
+dateAndPlatform = be16 2019 ∷ be16 12 ∷ be16 1 ∷ zeros 6 ∷ Sig.acsp ∷ Sig.APPL ∷ []
 
-pub length-class : (k : Kind) → length (class k) ≡ 4
-length-class Gray = refl
-length-class Rgb = refl
-length-class Xyb = refl
+abbrev lastFields : List (List ℕ)
+lastFields = zeros 4 ∷ zeros 16 ∷ be32 0 ∷ s15Fixed16s D50 ∷ Sig.jxl ∷ zeros 16 ∷ zeros 28 ∷ []
 
-pub length-space : (k : Kind) → length (space k) ≡ 4
-length-space Gray = refl
-length-space Rgb = refl
-length-space Xyb = refl
+pub length-class-and-space : (k : Kind) → length (join (classAndSpace k)) ≡ 20
+unfolding join
+length-class-and-space Gray = refl
+length-class-and-space Rgb = refl
+length-class-and-space Xyb = refl
 
-abbrev pub date-and-platform : List ℕ
-date-and-platform = join (be16 2019 ∷ be16 12 ∷ be16 1 ∷ zeros 6 ∷ Sig.acsp ∷ Sig.APPL ∷ [])
+pub length-date-and-platform : length (join dateAndPlatform) ≡ 20
+unfolding join
+length-date-and-platform = simp (length-append, length-be16)
 
-pub length-date-and-platform : length date-and-platform ≡ 20
-unfolding join be16
-length-date-and-platform = refl
+pub length-last-fields : length (join lastFields) ≡ 84
+unfolding join
+length-last-fields = simp (length-append, length-be32, length-s15Fixed16s)
 
-abbrev pub last-fields : List ℕ
-last-fields = join (zeros 24 ∷ s15Fixed16s D50 ∷ Sig.jxl ∷ zeros 44 ∷ [])
+join-append : (a b : List (List ℕ)) → join (a ++ b) ≡ join a ++ join b
+unfolding join
+join-append [] b = refl
+join-append (x ∷ a) b = ap (λ (l : List ℕ). x ++ l) (join-append a b) ∙ sym (append-assoc x (join a) (join b))
 
-pub length-last-fields : length last-fields ≡ 84
-unfolding join s15Fixed16s be32 twosComplement32
-length-last-fields = refl
+nested : (x : List ℕ) (a b c : List (List ℕ)) → join (x ∷ join (a ++ b) ∷ c) ≡ join (x ∷ join a ∷ join b ∷ join c ∷ [])
+unfolding join
+nested x a b c = simp (join-append, append-assoc, append-nil)
 
-whole : (k : Kind) (n : ℕ) → join (first-fields n (class k) (space k) ∷ date-and-platform ∷ last-fields ∷ []) ≡ header k (record { size = n; intent = 0; id = zeros 16 })
-unfolding join header be16 be32 s15Fixed16s twosComplement32
-whole Gray n = refl
-whole Rgb n = refl
-whole Xyb n = refl
-
-pub header-parts : (k : Kind) (n : ℕ) (a b : List ℕ) → a ≡ class k → b ≡ space k
-    → join (first-fields n a b ∷ date-and-platform ∷ last-fields ∷ []) ≡ header k (record { size = n; intent = 0; id = zeros 16 })
-header-parts k n a b ha hb = ap₂ (λ (x y : List ℕ). join (first-fields n x y ∷ date-and-platform ∷ last-fields ∷ [])) ha hb ∙ whole k n
+pub header-parts : (k : Kind) (n : ℕ)
+    → header k (record { size = n; intent = 0; id = zeros 16 }) ≡ join (be32 n ∷ join (classAndSpace k) ∷ join dateAndPlatform ∷ join lastFields ∷ [])
+unfolding header
+header-parts k n = nested (be32 n) (classAndSpace k) dateAndPlatform lastFields

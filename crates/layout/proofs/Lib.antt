@@ -1,6 +1,4 @@
-pub mod HeaderParts
-pub mod TableParts
-pub mod KindParts
 pub mod Finish
 pub mod Front
-pub mod Shaped
+pub mod HeaderParts
+pub mod KindParts

@@ -1,56 +1,24 @@
 // The profile header (ICC.1:2022, 7.2), with the intent and the id left zero: MD5 wants them so.
 ghost use mathlib.Core.Path.{_≡_};
 ghost use mathlib.Core.List.{_∷_, []};
-ghost use Prim.Native.Nat.{_≤_};
+ghost use Prim.Native.Nat.{_+_, _≤_};
 ghost use lib.ListN.{length};
 ghost use Rattle.numbers.specs.Words.{be16, be32};
 ghost use Rattle.buffer.specs.Buffer.{put};
+ghost use Rattle.buffer.specs.Bytes.{zeros};
+ghost use Rattle.buffer.specs.Puts.{Puts};
 ghost use Rattle.profile.specs.Signatures as Sig;
-ghost use Rattle.profile.specs.TagTypes.{join, zeros, s15Fixed16s};
-ghost use Rattle.profile.specs.Layout.{header, D50};
+ghost use Rattle.profile.specs.TagTypes.{join, s15Fixed16s};
 ghost use Rattle.profile.specs.Layout as Layout;
+use elements::D50;
+use elements::put_s15_fixed_16s;
+use elements::write_icc_tag;
 use profile::Kind;
-use profile::elements::put_zeros;
-use profile::elements::write_icc_tag;
 
-// Bytes 0 to 23: size, preferred CMM, version 4.4, class, data color space, PCS.
-fn put_first_fields(out: &mut [u8], size: u32, profile_class: [u8; 4], data_color_space: [u8; 4])
-    requires { ⌜ 128 ≤ length (now out) ⌝ }
-    ensures { λ _. ⌜ now (out .exit) ≡ put (now (out .entry)) 0 (join (be32 size ∷ Sig.jxl ∷ (4 ∷ 64 ∷ 0 ∷ 0 ∷ []) ∷ «profile_class» ∷ «data_color_space» ∷ Sig.XYZ ∷ [])) ⌝ }
-{
-    numbers::put_u32_be(out, 0, size);
-    write_icc_tag(out, 4, *b"jxl ");
-    numbers::put_u32_be(out, 8, 0x04400000);
-    write_icc_tag(out, 12, profile_class);
-    write_icc_tag(out, 16, data_color_space);
-    write_icc_tag(out, 20, *b"XYZ ");
-}
+// Where the intent and the id stand.
+pub const INTENT: usize = 64;
 
-// Bytes 24 to 43: 2019-12-01 00:00:00, file signature, platform.
-fn put_date_and_platform(out: &mut [u8])
-    requires { ⌜ 128 ≤ length (now out) ⌝ }
-    ensures { λ _. ⌜ now (out .exit) ≡ put (now (out .entry)) 24 (join (be16 2019 ∷ be16 12 ∷ be16 1 ∷ zeros 6 ∷ Sig.acsp ∷ Sig.APPL ∷ [])) ⌝ }
-{
-    numbers::put_u16_be(out, 24, 2019);
-    numbers::put_u16_be(out, 26, 12);
-    numbers::put_u16_be(out, 28, 1);
-    put_zeros(out, 30, 6);
-    write_icc_tag(out, 36, *b"acsp");
-    write_icc_tag(out, 40, *b"APPL");
-}
-
-// Bytes 44 to 127: flags, manufacturer, model, attributes and intent; PCS illuminant; creator; id and reserved bytes.
-fn put_last_fields(out: &mut [u8])
-    requires { ⌜ 128 ≤ length (now out) ⌝ }
-    ensures { λ _. ⌜ now (out .exit) ≡ put (now (out .entry)) 44 (join (zeros 24 ∷ s15Fixed16s D50 ∷ Sig.jxl ∷ zeros 44 ∷ [])) ⌝ }
-{
-    put_zeros(out, 44, 24);
-    numbers::put_u32_be(out, 68, 0x0000F6D6);
-    numbers::put_u32_be(out, 72, 0x00010000);
-    numbers::put_u32_be(out, 76, 0x0000D32D);
-    write_icc_tag(out, 80, *b"jxl ");
-    put_zeros(out, 84, 44);
-}
+pub const ID: usize = 84;
 
 fn class(kind: Kind) -> [u8; 4]
     ensures { λ r. ⌜ r ≡ Layout.class kind ⌝ }
@@ -72,11 +40,53 @@ fn space(kind: Kind) -> [u8; 4]
     }
 }
 
+// Preferred CMM, version 4.4, class, data color space, PCS.
+fn put_class_and_space(out: &mut [u8], at: usize, kind: Kind) -> usize
+    requires { ⌜ at + 20 ≤ length (now out) ⌝ }
+    ensures { λ r. ⌜ Puts (now (out .entry)) at 20 (join (Sig.jxl ∷ (4 ∷ 64 ∷ 0 ∷ 0 ∷ []) ∷ Layout.class kind ∷ Layout.space kind ∷ Sig.XYZ ∷ [])) r (now (out .exit)) ⌝ }
+{
+    let version = [4, 64, 0, 0];
+    let at = write_icc_tag(out, at, *b"jxl ");
+    let at = write_icc_tag(out, at, version);
+    let at = write_icc_tag(out, at, class(kind));
+    let at = write_icc_tag(out, at, space(kind));
+    write_icc_tag(out, at, *b"XYZ ")
+}
+
+// 2019-12-01 00:00:00, file signature, platform.
+fn put_date_and_platform(out: &mut [u8], at: usize) -> usize
+    requires { ⌜ at + 20 ≤ length (now out) ⌝ }
+    ensures { λ r. ⌜ Puts (now (out .entry)) at 20 (join (be16 2019 ∷ be16 12 ∷ be16 1 ∷ zeros 6 ∷ Sig.acsp ∷ Sig.APPL ∷ [])) r (now (out .exit)) ⌝ }
+{
+    let at = numbers::put_u16_be(out, at, 2019);
+    let at = numbers::put_u16_be(out, at, 12);
+    let at = numbers::put_u16_be(out, at, 1);
+    let at = buffer::put_zeros(out, at, 6);
+    let at = write_icc_tag(out, at, *b"acsp");
+    write_icc_tag(out, at, *b"APPL")
+}
+
+// Flags; manufacturer, model and attributes; intent; PCS illuminant; creator; id; reserved bytes.
+fn put_last_fields(out: &mut [u8], at: usize) -> usize
+    requires { ⌜ at + 84 ≤ length (now out) ⌝ }
+    ensures { λ r. ⌜ Puts (now (out .entry)) at 84 (join (zeros 4 ∷ zeros 16 ∷ be32 0 ∷ s15Fixed16s Layout.D50 ∷ Sig.jxl ∷ zeros 16 ∷ zeros 28 ∷ [])) r (now (out .exit)) ⌝ }
+{
+    let white = D50;
+    let at = buffer::put_zeros(out, at, 4);
+    let at = buffer::put_zeros(out, at, 16);
+    let at = numbers::put_u32_be(out, at, 0);
+    let at = put_s15_fixed_16s(out, at, &white);
+    let at = write_icc_tag(out, at, *b"jxl ");
+    let at = buffer::put_zeros(out, at, 16);
+    buffer::put_zeros(out, at, 28)
+}
+
 pub fn create_icc_header(out: &mut [u8], size: u32, kind: Kind)
     requires { ⌜ 128 ≤ length (now out) ⌝ }
-    ensures { λ _. ⌜ now (out .exit) ≡ put (now (out .entry)) 0 (header kind (record { size = size; intent = 0; id = zeros 16 })) ⌝ }
+    ensures { λ _. ⌜ now (out .exit) ≡ put (now (out .entry)) 0 (Layout.header kind (record { size = size; intent = 0; id = zeros 16 })) ⌝ }
 {
-    put_first_fields(out, size, class(kind), space(kind));
-    put_date_and_platform(out);
-    put_last_fields(out);
+    let at = numbers::put_u32_be(out, 0, size);
+    let at = put_class_and_space(out, at, kind);
+    let at = put_date_and_platform(out, at);
+    put_last_fields(out, at);
 }

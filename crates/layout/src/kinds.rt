@@ -1,29 +1,24 @@
 // The elements of each kind of profile, in tag order.
-ghost use mathlib.Core.Path.{_≡_};
-ghost use mathlib.Core.List.{_∷_, []};
 ghost use Prim.Native.Nat.{_+_, _≤_};
 ghost use lib.ListN.{length};
-ghost use Rattle.buffer.specs.Buffer.{put};
-ghost use Rattle.profile.specs.Signatures as Sig;
+ghost use Rattle.buffer.specs.Puts.{Puts};
 ghost use Rattle.profile.specs.Elements.{body, bodySize};
-ghost use Rattle.profile.specs.Plan.{gray, rgb, xyb, contentBy};
-ghost use Rattle.profile.specs.TagTypes as TagTypes;
-ghost use Rattle.profile.specs.Layout.{tag, described, colorElements, elementsOf};
-ghost use Rattle.profile.specs.Shape.{one, describedSlots, curveSize, isGamma, grayShape, rgbShape, xybShape, shapeBy, slotsOf};
-use profile::Cicp;
+ghost use Rattle.profile.specs.Layout as Layout;
+ghost use Rattle.profile.specs.Numbers.{contentBy, planOf};
+ghost use Rattle.profile.specs.Plan.{maxLetters};
+ghost use Rattle.profile.specs.Shape as Shapes;
+use elements::D50;
 use profile::Curve;
 use profile::Kind;
 use profile::Numbers;
-use profile::elements;
-use profile::xyb;
 
-// The PCS white point, as fixed numbers.
-const D50: [i32; 3] = [63190, 65536, 54061];
+// The Y of a gray profile's white, 1 as a fixed number.
+const WHITE_Y: i32 = 65536;
 
 // `desc`, `cprt` and `wtpt`, with which every profile starts.
 fn put_first_elements(out: &mut [u8], at: usize, text: &[u8], white: [i32; 3]) -> usize
-    requires { ⌜ (length (now text) ≤ 372) × (at + bodySize (describedSlots (length (now text)) (one Sig.wtpt 20 ∷ [])) ≤ length (now out)) ⌝ }
-    ensures { λ r. ⌜ (r ≡ at + bodySize (describedSlots (length (now (text .entry))) (one Sig.wtpt 20 ∷ []))) × (now (out .exit) ≡ put (now (out .entry)) at (body (described (now (text .entry)) (tag Sig.wtpt (TagTypes.xyz white) ∷ [])))) ⌝ }
+    requires { ⌜ (length (now text) ≤ maxLetters) × (at + bodySize (Shapes.firstSlots (length (now text))) ≤ length (now out)) ⌝ }
+    ensures { λ r. ⌜ Puts (now (out .entry)) at (bodySize (Shapes.firstSlots (length (now (text .entry))))) (body (Layout.firstElements (now (text .entry)) white)) r (now (out .exit)) ⌝ }
 {
     let at = elements::create_icc_mluc_tag(out, at, text);
     let at = elements::create_icc_mluc_tag(out, at, b"CC0");
@@ -32,8 +27,8 @@ fn put_first_elements(out: &mut [u8], at: usize, text: &[u8], white: [i32; 3]) -
 
 // The columns of RGB, red, green and blue, and its one curve.
 fn put_color_elements(out: &mut [u8], at: usize, columns: [i32; 9], curve: Curve) -> usize
-    requires { ⌜ at + (60 + curveSize (isGamma curve)) ≤ length (now out) ⌝ }
-    ensures { λ r. ⌜ (r ≡ at + (60 + curveSize (isGamma curve))) × (now (out .exit) ≡ put (now (out .entry)) at (body (colorElements columns curve))) ⌝ }
+    requires { ⌜ at + bodySize (Shapes.colorSlots (Shapes.curveSize (Shapes.isGamma curve))) ≤ length (now out) ⌝ }
+    ensures { λ r. ⌜ Puts (now (out .entry)) at (bodySize (Shapes.colorSlots (Shapes.curveSize (Shapes.isGamma curve)))) (body (Layout.colorElements columns curve)) r (now (out .exit)) ⌝ }
 {
     let at = elements::create_icc_xyz_tag(out, at, &columns[0..3]);
     let at = elements::create_icc_xyz_tag(out, at, &columns[3..6]);
@@ -41,58 +36,50 @@ fn put_color_elements(out: &mut [u8], at: usize, columns: [i32; 9], curve: Curve
     elements::put_curve(out, at, curve)
 }
 
-fn put_gray_elements(out: &mut [u8], at: usize, text: &[u8], curve: Curve, x: i32, z: i32)
-    requires { ⌜ (length (now text) ≤ 372) × (at + bodySize (slotsOf (grayShape (length (now text)) curve)) ≤ length (now out)) ⌝ }
-    ensures { λ _. ⌜ now (out .exit) ≡ put (now (out .entry)) at (body (elementsOf (gray (now (text .entry)) curve x z))) ⌝ }
+fn put_gray_elements(out: &mut [u8], at: usize, plan: Numbers, text: &[u8]) -> usize
+    requires { ⌜ (length (now text) ≤ maxLetters) × (at + bodySize (Shapes.slotsOf (Shapes.shapeOf (contentBy Kind.Gray plan (now text)))) ≤ length (now out)) ⌝ }
+    ensures { λ r. ⌜ Puts (now (out .entry)) at (bodySize (Shapes.slotsOf (Shapes.shapeOf (contentBy Kind.Gray plan (now (text .entry)))))) (body (Layout.elementsFor (plan .intent) (contentBy Kind.Gray plan (now (text .entry))))) r (now (out .exit)) ⌝ }
 {
-    let at = put_first_elements(out, at, text, [x, 65536, z]);
-    elements::put_curve(out, at, curve);
+    let curve = plan.curve;
+    let white = [plan.white_x, WHITE_Y, plan.white_z];
+    let at = put_first_elements(out, at, text, white);
+    elements::put_curve(out, at, curve)
 }
 
-fn put_rgb_elements(
-    out: &mut [u8],
-    at: usize,
-    text: &[u8],
-    curve: Curve,
-    chad: [i32; 9],
-    columns: [i32; 9],
-    cicp: Cicp,
-)
-    requires { ⌜ (length (now text) ≤ 372) × (at + bodySize (slotsOf (rgbShape (length (now text)) curve cicp)) ≤ length (now out)) ⌝ }
-    ensures { λ _. ⌜ now (out .exit) ≡ put (now (out .entry)) at (body (elementsOf (rgb (now (text .entry)) curve chad columns cicp))) ⌝ }
+fn put_rgb_elements(out: &mut [u8], at: usize, plan: Numbers, text: &[u8]) -> usize
+    requires { ⌜ (length (now text) ≤ maxLetters) × (at + bodySize (Shapes.slotsOf (Shapes.shapeOf (contentBy Kind.Rgb plan (now text)))) ≤ length (now out)) ⌝ }
+    ensures { λ r. ⌜ Puts (now (out .entry)) at (bodySize (Shapes.slotsOf (Shapes.shapeOf (contentBy Kind.Rgb plan (now (text .entry)))))) (body (Layout.elementsFor (plan .intent) (contentBy Kind.Rgb plan (now (text .entry))))) r (now (out .exit)) ⌝ }
 {
+    let curve = plan.curve;
+    let chad = plan.chad;
+    let columns = plan.columns;
+    let cicp = plan.cicp;
     let at = put_first_elements(out, at, text, D50);
     let at = elements::create_icc_chad_tag(out, at, &chad);
     let at = elements::create_icc_cicp_tag_data(out, at, cicp, curve);
-    put_color_elements(out, at, columns, curve);
+    put_color_elements(out, at, columns, curve)
 }
 
-fn put_xyb_elements(out: &mut [u8], at: usize)
-    requires { ⌜ at + bodySize (slotsOf xybShape) ≤ length (now out) ⌝ }
-    ensures { λ _. ⌜ now (out .exit) ≡ put (now (out .entry)) at (body (elementsOf xyb)) ⌝ }
+fn put_xyb_elements(out: &mut [u8], at: usize, plan: Numbers, text: &[u8]) -> usize
+    requires { ⌜ at + bodySize (Shapes.slotsOf (Shapes.shapeOf (contentBy Kind.Xyb plan (now text)))) ≤ length (now out) ⌝ }
+    ensures { λ r. ⌜ Puts (now (out .entry)) at (bodySize (Shapes.slotsOf (Shapes.shapeOf (contentBy Kind.Xyb plan (now (text .entry)))))) (body (Layout.elementsFor (plan .intent) (contentBy Kind.Xyb plan (now (text .entry))))) r (now (out .exit)) ⌝ }
 {
     let chad = xyb_constants::chad();
     let at = put_first_elements(out, at, b"XYB_Per", D50);
     let at = elements::create_icc_chad_tag(out, at, &chad);
-    let at = xyb::create_icc_lut_atob_tag_for_xyb(out, at);
-    xyb::create_icc_noop_btoa_tag(out, at);
+    let at = xyb_elements::create_icc_lut_atob_tag_for_xyb(out, at);
+    xyb_elements::create_icc_noop_btoa_tag(out, at)
 }
 
 // The elements of a plan with this text.
-pub fn put_elements(out: &mut [u8], at: usize, plan: Numbers, text: &[u8])
-    requires { ⌜ (length (now text) ≤ 372) × (at + bodySize (slotsOf (shapeBy (plan .kind) (plan .curve) (plan .cicp) (length (now text)))) ≤ length (now out)) ⌝ }
-    ensures { λ _. ⌜ now (out .exit) ≡ put (now (out .entry)) at (body (elementsOf (contentBy (plan .kind) plan (now (text .entry))))) ⌝ }
+pub fn put_elements(out: &mut [u8], at: usize, plan: Numbers, text: &[u8]) -> usize
+    requires { ⌜ (length (now text) ≤ maxLetters) × (at + bodySize (Shapes.slotsOf (Shapes.shape (planOf plan (now text)))) ≤ length (now out)) ⌝ }
+    ensures { λ r. ⌜ Puts (now (out .entry)) at (bodySize (Shapes.slotsOf (Shapes.shape (planOf plan (now (text .entry)))))) (body (Layout.elements (planOf plan (now (text .entry))))) r (now (out .exit)) ⌝ }
 {
     let kind = plan.kind;
-    let curve = plan.curve;
     match kind {
-        Kind::Gray => put_gray_elements(out, at, text, curve, plan.white_x, plan.white_z),
-        Kind::Rgb => {
-            let chad = plan.chad;
-            let columns = plan.columns;
-            let cicp = plan.cicp;
-            put_rgb_elements(out, at, text, curve, chad, columns, cicp)
-        }
-        Kind::Xyb => put_xyb_elements(out, at),
+        Kind::Gray => put_gray_elements(out, at, plan, text),
+        Kind::Rgb => put_rgb_elements(out, at, plan, text),
+        Kind::Xyb => put_xyb_elements(out, at, plan, text),
     }
 }

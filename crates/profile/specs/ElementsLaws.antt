@@ -7,6 +7,7 @@ use native.Mathlib.Omega.{arith}
 use lib.ListN.{length, length-append, length-replicate, length-map}
 use Rattle.numbers.specs.WordsLaws.{length-be32}
 use Rattle.buffer.specs.All.{All, none, more}
+use Rattle.buffer.specs.AllLaws.{All-append, All-map}
 use Rattle.profile.specs.Elements
 
 -- ---- padding
@@ -33,14 +34,6 @@ Four s = length s ≡ 4
 
 abbrev pub Fours : List Elements.Slot → Type 0
 Fours = All (λ (s : Elements.Slot). All Four (s .signatures))
-
-pub All-append : {A : Type 0} {P : A → Type 0} {a b : List A} → All P a → All P b → All P (a ++ b)
-All-append none q = q
-All-append (more h p) q = more h (All-append p q)
-
-pub All-map : {A B : Type 0} {P : A → Type 0} {Q : B → Type 0} (f : A → B) {l : List A} → ((a : A) → P a → Q (f a)) → All P l → All Q (map f l)
-All-map f h none = none
-All-map f h (more {a = a} p ps) = more (h a p) (All-map f h ps)
 
 pub entries-four : (at : ℕ) (ss : List Elements.Slot) → Fours ss → All (λ (e : Elements.Entry). Four (e .signature)) (Elements.entries at ss)
 unfolding Elements.entries

@@ -5,6 +5,7 @@ use mathlib.Core.List.{List, [], _∷_, _++_, map}
 use lib.ListN.{take, drop}
 use lib.IntN.{ℤ, pos}
 use Rattle.numbers.specs.Words.{be16, be32}
+use Rattle.buffer.specs.Bytes.{zeros}
 use Rattle.buffer.specs.Ascii.{ascii}
 use Rattle.md5.specs.Md5.{md5}
 use Rattle.xyb_constants.specs.XybNumbers as XybNumbers
@@ -13,7 +14,7 @@ use Rattle.profile.specs.Elements.{Element, Slot, slot, file, fileLength
 use Rattle.profile.specs.Plan.{Plan, Content, gray, rgb, xyb, kind}
 use Rattle.profile.specs.declared.Kind.{Kind}
 use Rattle.profile.specs.declared.Kind.the-variants.{Gray, Rgb, Xyb}
-use Rattle.profile.specs.TagTypes.{join, zeros, mluc, xyz, sf32, curve, cicp, s15Fixed16s}
+use Rattle.profile.specs.TagTypes.{join, mluc, xyz, sf32, curve, cicp, s15Fixed16s}
 use Rattle.profile.specs.Xyb.{a2b0, b2a0}
 use Rattle.profile.specs.declared.Curve.{Curve}
 use Rattle.profile.specs.declared.Cicp.{Cicp}
@@ -27,7 +28,7 @@ under s b = record { signatures = s; bytes = b }
 abbrev pub tag : List ℕ → List ℕ → Element
 tag s b = under (s ∷ []) b
 
--- the PCS white point as the Rust's f32 constants round: 0.964203, 1, 0.824905
+-- the PCS white point: 0.964203, 1, 0.824905 (FixedConstants)
 abbrev pub D50 : List ℤ
 D50 = pos 63190 ∷ pos 65536 ∷ pos 54061 ∷ []
 
@@ -35,8 +36,9 @@ D50 = pos 63190 ∷ pos 65536 ∷ pos 54061 ∷ []
 abbrev pub xybText : List ℕ
 xybText = ascii "XYB_Per"
 
-abbrev pub described : List ℕ → List Element → List Element
-described t es = tag Sig.desc (mluc t) ∷ tag Sig.cprt (mluc (ascii "CC0")) ∷ es
+-- each profile begins with its text, the copyright and a white
+abbrev pub firstElements : List ℕ → List ℤ → List Element
+firstElements t white = tag Sig.desc (mluc t) ∷ tag Sig.cprt (mluc (ascii "CC0")) ∷ tag Sig.wtpt (xyz white) ∷ []
 
 abbrev pub cicpElement : Curve → Cicp → List Element
 cicpElement c Absent = []
@@ -48,15 +50,15 @@ colorElements k c =
     tag Sig.rXYZ (xyz (take 3 k)) ∷ tag Sig.gXYZ (xyz (take 3 (drop 3 k))) ∷ tag Sig.bXYZ (xyz (drop 6 k))
     ∷ under (Sig.rTRC ∷ Sig.gTRC ∷ Sig.bTRC ∷ []) (curve c) ∷ []
 
-abbrev pub elementsOf : Content → List Element
-elementsOf (gray t c x z) = described t (tag Sig.wtpt (xyz (x ∷ pos 65536 ∷ z ∷ [])) ∷ tag Sig.kTRC (curve c) ∷ [])
-elementsOf (rgb t c m k v) = described t (tag Sig.wtpt (xyz D50) ∷ tag Sig.chad (sf32 m) ∷ (cicpElement c v ++ colorElements k c))
-elementsOf xyb =
-    described xybText
-    (tag Sig.wtpt (xyz D50) ∷ tag Sig.chad (sf32 XybNumbers.chad) ∷ tag Sig.A2B0 a2b0 ∷ tag Sig.B2A0 b2a0 ∷ [])
+-- of a plan with this intent
+abbrev pub elementsFor : ℕ → Content → List Element
+elementsFor i (gray g) = firstElements (g .text) (g .white-x ∷ pos 65536 ∷ g .white-z ∷ []) ++ (tag Sig.kTRC (curve (g .curve)) ∷ [])
+elementsFor i (rgb g) =
+    firstElements (g .text) D50 ++ (tag Sig.chad (sf32 (g .chad)) ∷ (cicpElement (g .curve) (g .cicp) ++ colorElements (g .columns) (g .curve)))
+elementsFor i xyb = firstElements xybText D50 ++ (tag Sig.chad (sf32 XybNumbers.chad) ∷ tag Sig.A2B0 a2b0 ∷ tag Sig.B2A0 b2a0 ∷ [])
 
 unfoldable pub elements : Plan → List Element
-elements p = elementsOf (p .content)
+elements p = elementsFor (p .intent) (p .content)
 
 abbrev pub slots : Plan → List Slot
 slots p = map slot (elements p)

@@ -7,18 +7,19 @@ use lib.ListN.{length, length-append}
 use lib.Seq.{drop-at}
 use lib.IntN.{ℤ}
 use Rattle.numbers.specs.Words.{be16, be32}
+use Rattle.buffer.specs.Bytes.{zeros}
 use Rattle.numbers.specs.WordsLaws.{length-be16, length-be32}
 use Rattle.buffer.specs.Buffer.{put}
 use Rattle.md5.specs.Md5.{md5}
 use Rattle.md5.specs.Md5Laws.{length-md5}
 use Rattle.profile.specs.Elements.{file, fileLength, start, tagCount, bodySize, padding}
 use Rattle.profile.specs.ElementsLaws.{Fours, length-file}
-use Rattle.profile.specs.Plan.{Plan, kind, xybPlan, Good}
+use Rattle.profile.specs.Plan.{Plan, kind, Good}
 use Rattle.profile.specs.declared.Kind.{Kind}
 use Rattle.profile.specs.declared.Kind.the-variants.{Gray, Rgb, Xyb}
-use Rattle.profile.specs.TagTypes.{join, zeros, s15Fixed16s}
+use Rattle.profile.specs.TagTypes.{join, s15Fixed16s}
 use Rattle.profile.specs.Layout
-use Rattle.profile.specs.Shape.{shape, slotsOf}
+use Rattle.profile.specs.Shape.{shape, slotsOf, maxLength}
 use Rattle.profile.specs.TagTypesLaws.{length-s15Fixed16s}
 use Rattle.profile.specs.PlanLaws.{Nines, good-nines, slots-shape, good-shape}
 use Rattle.profile.specs.PlanLaws as PlanLaws
@@ -56,8 +57,7 @@ header-put-id Xyb n i d e r h g = rw (g, append-assoc d (zeros 28 ++ []) r, drop
 -- ---- the length of a plan's file
 
 pub plan-fours : (p : Plan) → Nines (p .content) → Fours (Layout.slots p)
-unfolding slotsOf
-plan-fours p h = rw (slots-shape p h) (PlanLaws.fours (shape p .kind) (shape p .letters) (shape p .gamma) (shape p .cicp))
+plan-fours p h = rw (slots-shape p h) (PlanLaws.fours (shape p))
 
 pub length-withId : (p : Plan) → Nines (p .content) → (id : List ℕ) → length id ≡ 16 → length (Layout.withId id p) ≡ fileLength (slotsOf (shape p))
 unfolding Layout.withId
@@ -72,18 +72,10 @@ pub length-layout : (p : Plan) → Nines (p .content) → length (Layout.layout 
 unfolding Layout.layout
 length-layout p h = length-withId p h _ (length-id _)
 
-pub layout-bounds : (N : ℤ → Type 0) (p : Plan) → Good N p → (284 ≤ length (Layout.layout p)) × (length (Layout.layout p) ≤ 1240)
-unfolding slotsOf
+pub layout-bounds : (N : ℤ → Type 0) (p : Plan) → Good N p → (284 ≤ length (Layout.layout p)) × (length (Layout.layout p) ≤ maxLength)
 layout-bounds N p g =
     let s = good-shape N (p .content) (g .content) in
-    rw (length-layout p (good-nines N (p .content) (g .content))) (
-      PlanLaws.at-least (shape p .kind) (shape p .letters) (shape p .gamma) (shape p .cicp) (s .some-letter),
-      PlanLaws.at-most (shape p .kind) (shape p .letters) (shape p .gamma) (shape p .cicp) (s .short),
-    )
-
-pub length-xyb : (i : ℕ) → length (Layout.layout (xybPlan i)) ≡ 720
-unfolding slotsOf fileLength start tagCount bodySize padding
-length-xyb i = length-layout (xybPlan i) tt
+    rw (length-layout p (good-nines N (p .content) (g .content))) (PlanLaws.at-least (shape p) (s .some-letter), PlanLaws.at-most (shape p) (s .short))
 
 -- ---- the file with its three fields blank
 

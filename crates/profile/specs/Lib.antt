@@ -1,5 +1,7 @@
 pub mod Signatures
 pub mod Elements
+pub mod FixedConstants
+pub mod Numbers
 pub mod Plan
 pub mod TagTypes
 pub mod Xyb

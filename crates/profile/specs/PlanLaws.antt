@@ -1,4 +1,4 @@
--- Laws of plans: the tag table depends on the shape alone, and what shapes there are. Assumes nothing.
+-- Laws of plans: the tag table depends on the shape alone, what shapes there are, and a plan in code. Assumes nothing.
 use Prim.Native.Nat.{ℕ, _≤_}
 use mathlib.Core.Path.{_≡_, refl, ap}
 use mathlib.Core.Bool.{Bool, true, false}
@@ -13,12 +13,13 @@ use Rattle.profile.specs.Signatures as Sig
 use Rattle.profile.specs.Elements.{Element, slot, padding, start, bodySize, tagCount, fileLength}
 use Rattle.profile.specs.ElementsLaws.{Four, Fours}
 use Rattle.profile.specs.Plan
-use Rattle.profile.specs.Plan.{gray, rgb, xyb}
-use Rattle.profile.specs.declared.Kind.the-variants.{Gray, Rgb, Xyb}
+use Rattle.profile.specs.Plan.{gray, rgb, xyb, maxLetters}
+use Rattle.profile.specs.Numbers.{contentBy, planOf, numbersFor, numbersOf, textFor, textOf}
 use Rattle.profile.specs.TagTypesLaws.{length-mluc, length-xyz, length-sf32, length-curve, length-cicp, length-a2b0, length-b2a0}
 use Rattle.profile.specs.Layout as Layout
 use Rattle.profile.specs.Shape
 use Rattle.profile.specs.declared.Kind.{Kind}
+use Rattle.profile.specs.declared.Kind.the-variants.{Gray, Rgb, Xyb}
 use Rattle.profile.specs.declared.Shape.{Shape}
 use Rattle.profile.specs.declared.Numbers.{Numbers}
 use Rattle.profile.specs.declared.Curve.{Curve}
@@ -30,13 +31,13 @@ use Rattle.profile.specs.declared.Cicp.the-variants.{Absent, Primaries}
 
 -- nine numbers each, in an RGB plan
 abbrev pub Nines : Plan.Content → Type 0
-Nines (gray t c x z) = Unit {0}
-Nines (rgb t c m k v) = (length m ≡ 9) × (length k ≡ 9)
+Nines (gray g) = Unit {0}
+Nines (rgb g) = (length (g .chad) ≡ 9) × (length (g .columns) ≡ 9)
 Nines xyb = Unit {0}
 
 pub good-nines : (N : ℤ → Type 0) (c : Plan.Content) → Plan.GoodContent N c → Nines c
-good-nines N (gray t c x z) h = tt
-good-nines N (rgb t c m k v) h = (h .chad-nine, h .columns-nine)
+good-nines N (gray g) h = tt
+good-nines N (rgb g) h = (h .chad-nine, h .columns-nine)
 good-nines N xyb h = tt
 
 slots-cicp : (c : Curve) (v : Cicp) (es : List Element) → map slot (Layout.cicpElement c v ++ es) ≡ Shape.cicpSlot (Shape.hasCicp v) ++ map slot es
@@ -45,101 +46,108 @@ slots-cicp c (Primaries v) es = ap (λ n. Shape.one Sig.cicp n ∷ map slot es) 
 
 pub slots-shape : (p : Plan.Plan) → Nines (p .content) → Layout.slots p ≡ Shape.slotsOf (Shape.shape p)
 unfolding Layout.elements Shape.slotsOf
-slots-shape p h = go (p .content) h
+slots-shape p h = go (p .intent) (p .content) h
   where
-    go : (c : Plan.Content) → Nines c → map slot (Layout.elementsOf c) ≡ Shape.slotsOf (Shape.shapeOf c)
-    go (gray t c x z) h = simp (length-mluc, length-xyz, length-curve)
-    go (rgb t c m k v) h =
+    go : (i : ℕ) (c : Plan.Content) → Nines c → map slot (Layout.elementsFor i c) ≡ Shape.slotsOf (Shape.shapeOf c)
+    go i (gray g) h = simp (length-mluc, length-xyz, length-curve)
+    go i (rgb g) h =
+        let k = g .columns in
         let first : length (take 3 k) ≡ 3 = length-take-le 3 k (omega arith) in
         let rest : length (drop 3 k) ≡ 6 = simp length-drop (omega arith) in
         let second : length (take 3 (drop 3 k)) ≡ 3 = length-take-le 3 (drop 3 k) (omega arith) in
         let third : length (drop 6 k) ≡ 3 = simp length-drop (omega arith) in
         simp (slots-cicp, length-mluc, length-xyz, length-sf32, length-curve, h .0, first, second, third)
-    go xyb h = simp (length-mluc, length-xyz, length-sf32, length-chad, length-a2b0, length-b2a0)
+    go i xyb h = simp (length-mluc, length-xyz, length-sf32, length-chad, length-a2b0, length-b2a0)
 
--- the shape of the plan that the code's numbers and a text make
-pub shape-by : (p : Numbers) (t : List ℕ) → Shape.shape (Plan.planOf p t) ≡ Shape.shapeBy (p .kind) (p .curve) (p .cicp) (length t)
-shape-by p t = go (p .kind)
+-- ---- a plan in code
+
+-- a plan is what its numbers and its text make
+pub plan-of-numbers : (p : Plan.Plan) → planOf (numbersOf p) (textOf p) ≡ p
+plan-of-numbers p = go (p .intent) (p .content)
   where
-    go : (k : Kind) → Shape.shapeOf (Plan.contentBy k p t) ≡ Shape.shapeBy k (p .curve) (p .cicp) (length t)
-    go Gray = refl
-    go Rgb = refl
-    go Xyb = refl
+    go : (i : ℕ) (c : Plan.Content) → planOf (numbersFor i c) (textFor c) ≡ record { intent = i; content = c }
+    go i (gray g) = refl
+    go i (rgb g) = refl
+    go i xyb = refl
 
-pub kind-by : (p : Numbers) (t : List ℕ) → Plan.kind (Plan.planOf p t) ≡ p .kind
+pub kind-by : (p : Numbers) (t : List ℕ) → Plan.kind (planOf p t) ≡ p .kind
 kind-by p t = go (p .kind)
   where
-    go : (k : Kind) → Plan.kindOf (Plan.contentBy k p t) ≡ k
+    go : (k : Kind) → Plan.kindOf (contentBy k p t) ≡ k
     go Gray = refl
     go Rgb = refl
     go Xyb = refl
 
-pub letters-by : (p : Numbers) (t : List ℕ) → length t ≤ 372 → Shape.shape (Plan.planOf p t) .letters ≤ 372
+pub letters-by : (p : Numbers) (t : List ℕ) → length t ≤ maxLetters → Shape.shape (planOf p t) .letters ≤ maxLetters
 letters-by p t h = go (p .kind)
   where
-    go : (k : Kind) → Shape.shapeOf (Plan.contentBy k p t) .letters ≤ 372
+    go : (k : Kind) → Shape.shapeOf (contentBy k p t) .letters ≤ maxLetters
     go Gray = h
     go Rgb = h
     go Xyb = omega arith
 
-pub nines-by : (p : Numbers) (t : List ℕ) → length (p .chad) ≡ 9 → length (p .columns) ≡ 9 → Nines (Plan.planOf p t .content)
+pub nines-by : (p : Numbers) (t : List ℕ) → length (p .chad) ≡ 9 → length (p .columns) ≡ 9 → Nines (planOf p t .content)
 nines-by p t h g = go (p .kind)
   where
-    go : (k : Kind) → Nines (Plan.contentBy k p t)
+    go : (k : Kind) → Nines (contentBy k p t)
     go Gray = tt
     go Rgb = (h, g)
     go Xyb = tt
 
 -- ---- the shapes there are
 
--- `cicp` stands beside a named curve only
-abbrev pub NotBoth : Bool → Bool → Type 0
-NotBoth true true = ⊥
-NotBoth true false = Unit {0}
-NotBoth false b = Unit {0}
-
-pub record GoodShape (s : Shape) : Type 0 where
-  pub some-letter : 1 ≤ s .letters
-  pub short : s .letters ≤ 372
-  pub pair : NotBoth (s .cicp) (s .gamma)
-
-good-pair : (c : Curve) (v : Cicp) → Plan.GoodCicp c v → NotBoth (Shape.hasCicp v) (Shape.isGamma c)
+good-pair : (c : Curve) (v : Cicp) → Plan.GoodCicp c v → Shape.NotBoth (Shape.hasCicp v) (Shape.isGamma c)
 good-pair c Absent h = tt
 good-pair (Named n) (Primaries v) h = tt
 good-pair (Gamma g) (Primaries v) h = h
 
-pub good-shape : (N : ℤ → Type 0) (c : Plan.Content) → Plan.GoodContent N c → GoodShape (Shape.shapeOf c)
-good-shape N (gray t c x z) h = record { some-letter = h .text .some-letter; short = h .text .short; pair = tt }
-good-shape N (rgb t c m k v) h = record { some-letter = h .text .some-letter; short = h .text .short; pair = good-pair c v (h .cicp) }
+pub good-shape : (N : ℤ → Type 0) (c : Plan.Content) → Plan.GoodContent N c → Shape.GoodShape (Shape.shapeOf c)
+good-shape N (gray g) h = record { some-letter = h .text .some-letter; short = h .text .short; pair = tt }
+good-shape N (rgb g) h = record { some-letter = h .text .some-letter; short = h .text .short; pair = good-pair (g .curve) (g .cicp) (h .cicp) }
 good-shape N xyb h = record { some-letter = omega arith; short = omega arith; pair = tt }
 
-pub at-least : (k : Kind) (n : ℕ) (g v : Bool) → 1 ≤ n → 284 ≤ fileLength (Shape.slotsFor k n g v)
-unfolding fileLength start bodySize tagCount padding
-at-least Gray n true v h = omega arith
-at-least Gray n false v h = omega arith
-at-least Rgb n true true h = omega arith
-at-least Rgb n true false h = omega arith
-at-least Rgb n false true h = omega arith
-at-least Rgb n false false h = omega arith
-at-least Xyb n g v h = omega arith
+-- by the kind, whether the curve is a gamma and whether there is `cicp`
+module _ (n : ℕ) where
+  abbrev shaped : Kind → Bool → Bool → Shape
+  shaped k g v = record { kind = k; letters = n; gamma = g; cicp = v }
 
-pub at-most : (k : Kind) (n : ℕ) (g v : Bool) → n ≤ 372 → fileLength (Shape.slotsFor k n g v) ≤ 1240
-unfolding fileLength start bodySize tagCount padding
-at-most Gray n true v h = omega arith
-at-most Gray n false v h = omega arith
-at-most Rgb n true true h = omega arith
-at-most Rgb n true false h = omega arith
-at-most Rgb n false true h = omega arith
-at-most Rgb n false false h = omega arith
-at-most Xyb n g v h = omega arith
+  least : (k : Kind) (g v : Bool) → 1 ≤ n → 284 ≤ fileLength (Shape.slotsOf (shaped k g v))
+  unfolding Shape.slotsOf fileLength start bodySize tagCount padding
+  least Gray true v h = omega arith
+  least Gray false v h = omega arith
+  least Rgb true true h = omega arith
+  least Rgb true false h = omega arith
+  least Rgb false true h = omega arith
+  least Rgb false false h = omega arith
+  least Xyb g v h = omega arith
 
-four : {a b c d : ℕ} → All Four ((a ∷ b ∷ c ∷ d ∷ []) ∷ [])
-four = more refl none
+  most : (k : Kind) (g v : Bool) → n ≤ maxLetters → fileLength (Shape.slotsOf (shaped k g v)) ≤ Shape.maxLength
+  unfolding Shape.slotsOf fileLength start bodySize tagCount padding
+  most Gray true v h = omega arith
+  most Gray false v h = omega arith
+  most Rgb true true h = omega arith
+  most Rgb true false h = omega arith
+  most Rgb false true h = omega arith
+  most Rgb false false h = omega arith
+  most Xyb g v h = omega arith
 
-pub fours : (k : Kind) (n : ℕ) (g v : Bool) → Fours (Shape.slotsFor k n g v)
-fours Gray n g v = more four (more four (more four (more four none)))
-fours Rgb n g true =
-    more four (more four (more four (more four (more four (more four (more four (more four (more (more refl (more refl four)) none))))))))
-fours Rgb n g false =
-    more four (more four (more four (more four (more four (more four (more four (more (more refl (more refl four)) none)))))))
-fours Xyb n g v = more four (more four (more four (more four (more four (more four none)))))
+  four : {a b c d : ℕ} → All Four ((a ∷ b ∷ c ∷ d ∷ []) ∷ [])
+  four = more refl none
+
+  signed : (k : Kind) (g v : Bool) → Fours (Shape.slotsOf (shaped k g v))
+  unfolding Shape.slotsOf
+  signed Gray g v = more four (more four (more four (more four none)))
+  signed Rgb g true =
+      more four (more four (more four (more four (more four (more four (more four (more four (more (more refl (more refl four)) none))))))))
+  signed Rgb g false =
+      more four (more four (more four (more four (more four (more four (more four (more (more refl (more refl four)) none)))))))
+  signed Xyb g v = more four (more four (more four (more four (more four (more four none)))))
+
+pub at-least : (s : Shape) → 1 ≤ s .letters → 284 ≤ fileLength (Shape.slotsOf s)
+at-least s h = least (s .letters) (s .kind) (s .gamma) (s .cicp) h
+
+pub at-most : (s : Shape) → s .letters ≤ maxLetters → fileLength (Shape.slotsOf s) ≤ Shape.maxLength
+at-most s h = most (s .letters) (s .kind) (s .gamma) (s .cicp) h
+
+pub fours : (s : Shape) → Fours (Shape.slotsOf s)
+fours s = signed (s .letters) (s .kind) (s .gamma) (s .cicp)

@@ -1,12 +1,12 @@
 -- The shape of a plan: its kind, the letters of its text, whether its curve is a gamma and whether it has `cicp`. The tag table of a plan
 -- is that of its shape (PlanLaws). Assumes nothing.
-use Prim.Native.Nat.{ℕ, _+_, _*_}
+use Prim.Native.Nat.{ℕ, _+_, _*_, _≤_}
 use mathlib.Core.Bool.{Bool, true, false}
 use mathlib.Core.List.{List, [], _∷_, _++_}
 use lib.ListN.{length}
 use Rattle.profile.specs.Signatures as Sig
 use Rattle.profile.specs.Elements.{Slot}
-use Rattle.profile.specs.Plan.{Plan, Content, gray, rgb, xyb}
+use Rattle.profile.specs.Plan.{Plan, Content, gray, rgb, xyb, maxLetters}
 use Rattle.profile.specs.declared.Kind.{Kind}
 use Rattle.profile.specs.declared.Kind.the-variants.{Gray, Rgb, Xyb}
 use Rattle.profile.specs.declared.Shape.{Shape}
@@ -23,29 +23,37 @@ abbrev pub hasCicp : Cicp → Bool
 hasCicp Absent = false
 hasCicp (Primaries v) = true
 
-abbrev pub grayShape : ℕ → Curve → Shape
-grayShape n c = record { kind = Gray; letters = n; gamma = isGamma c; cicp = false }
+-- the letters of an XYB plan's text, as `XYB_Per` has
+abbrev pub xybLetters : ℕ
+xybLetters = 7
 
-abbrev pub rgbShape : ℕ → Curve → Cicp → Shape
-rgbShape n c v = record { kind = Rgb; letters = n; gamma = isGamma c; cicp = hasCicp v }
-
--- the text of XYB is `XYB_Per`
 abbrev pub xybShape : Shape
-xybShape = record { kind = Xyb; letters = 7; gamma = false; cicp = false }
+xybShape = record { kind = Xyb; letters = xybLetters; gamma = false; cicp = false }
 
 abbrev pub shapeOf : Content → Shape
-shapeOf (gray t c x z) = grayShape (length t) c
-shapeOf (rgb t c m k v) = rgbShape (length t) c v
+shapeOf (gray g) = record { kind = Gray; letters = length (g .text); gamma = isGamma (g .curve); cicp = false }
+shapeOf (rgb g) = record { kind = Rgb; letters = length (g .text); gamma = isGamma (g .curve); cicp = hasCicp (g .cicp) }
 shapeOf xyb = xybShape
 
 abbrev pub shape : Plan → Shape
 shape p = shapeOf (p .content)
 
--- the same by a kind, a curve and `cicp`, with so many letters of text
-abbrev pub shapeBy : Kind → Curve → Cicp → ℕ → Shape
-shapeBy Gray c v n = grayShape n c
-shapeBy Rgb c v n = rgbShape n c v
-shapeBy Xyb c v n = xybShape
+-- ---- which shapes there are
+
+-- `cicp` stands beside a named curve only
+abbrev pub NotBoth : Bool → Bool → Type 0
+NotBoth true true = ⊥
+NotBoth true false = Unit {0}
+NotBoth false b = Unit {0}
+
+pub record GoodShape (s : Shape) : Type 0 where
+  pub some-letter : 1 ≤ s .letters
+  pub short : s .letters ≤ maxLetters
+  pub pair : NotBoth (s .cicp) (s .gamma)
+
+-- the most bytes of a profile (01, "A plan")
+abbrev pub maxLength : ℕ
+maxLength = 1240
 
 -- ---- sizes (01, "The layout")
 
@@ -63,27 +71,24 @@ sized s n = record { signatures = s; size = n }
 abbrev pub one : List ℕ → ℕ → Slot
 one s n = sized (s ∷ []) n
 
+-- ---- the elements of each kind, in tag order (01, "The layout")
+
 abbrev pub cicpSlot : Bool → List Slot
 cicpSlot true = one Sig.cicp 12 ∷ []
 cicpSlot false = []
 
--- the one curve of an RGB profile, of n bytes
-abbrev pub curveSlots : ℕ → List Slot
-curveSlots n = sized (Sig.rTRC ∷ Sig.gTRC ∷ Sig.bTRC ∷ []) n ∷ []
-
--- its columns and the curve
+-- the columns of an RGB profile and its one curve, of n bytes
 abbrev pub colorSlots : ℕ → List Slot
-colorSlots n = one Sig.rXYZ 20 ∷ one Sig.gXYZ 20 ∷ one Sig.bXYZ 20 ∷ curveSlots n
+colorSlots n = one Sig.rXYZ 20 ∷ one Sig.gXYZ 20 ∷ one Sig.bXYZ 20 ∷ sized (Sig.rTRC ∷ Sig.gTRC ∷ Sig.bTRC ∷ []) n ∷ []
 
-abbrev pub describedSlots : ℕ → List Slot → List Slot
-describedSlots n ss = one Sig.desc (mlucSize n) ∷ one Sig.cprt (mlucSize 3) ∷ ss
+-- each profile begins so
+abbrev pub firstSlots : ℕ → List Slot
+firstSlots n = one Sig.desc (mlucSize n) ∷ one Sig.cprt (mlucSize 3) ∷ one Sig.wtpt 20 ∷ []
 
-abbrev pub slotsFor : Kind → ℕ → Bool → Bool → List Slot
-slotsFor Gray n g v = describedSlots n (one Sig.wtpt 20 ∷ one Sig.kTRC (curveSize g) ∷ [])
-slotsFor Rgb n g v =
-    describedSlots n (one Sig.wtpt 20 ∷ one Sig.chad 44 ∷ (cicpSlot v ++ colorSlots (curveSize g)))
-slotsFor Xyb n g v =
-    describedSlots 7 (one Sig.wtpt 20 ∷ one Sig.chad 44 ∷ one Sig.A2B0 292 ∷ one Sig.B2A0 80 ∷ [])
+abbrev pub slotsFor : Kind → Shape → List Slot
+slotsFor Gray s = firstSlots (s .letters) ++ (one Sig.kTRC (curveSize (s .gamma)) ∷ [])
+slotsFor Rgb s = firstSlots (s .letters) ++ (one Sig.chad 44 ∷ (cicpSlot (s .cicp) ++ colorSlots (curveSize (s .gamma))))
+slotsFor Xyb s = firstSlots xybLetters ++ (one Sig.chad 44 ∷ one Sig.A2B0 292 ∷ one Sig.B2A0 80 ∷ [])
 
 unfoldable pub slotsOf : Shape → List Slot
-slotsOf s = slotsFor (s .kind) (s .letters) (s .gamma) (s .cicp)
+slotsOf s = slotsFor (s .kind) s

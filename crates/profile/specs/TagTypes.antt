@@ -1,10 +1,11 @@
 -- The bytes of each tag type of ICC.1:2022 (section 10) that the profiles hold. Assumes nothing.
 use Prim.Native.Nat.{ℕ, _+_, _*_}
 use mathlib.Core.List.{List, [], _∷_, _++_}
-use lib.ListN.{length, replicate}
+use lib.ListN.{length}
 use lib.IntN.{ℤ, pos}
 use Rattle.numbers.specs.Words.{be16, be32, twosComplement32}
 use Rattle.buffer.specs.Ascii.{ascii}
+use Rattle.buffer.specs.Bytes.{zeros}
 use Rattle.profile.specs.Signatures as Sig
 use Rattle.profile.specs.declared.CurveName.{CurveName}
 use Rattle.profile.specs.declared.CurveName.the-variants as Name
@@ -15,9 +16,6 @@ use Rattle.profile.specs.declared.Curve.the-variants.{Named, Gamma}
 unfoldable pub join : List (List ℕ) → List ℕ
 join [] = []
 join (x ∷ xs) = x ++ join xs
-
-abbrev pub zeros : ℕ → List ℕ
-zeros n = replicate n 0
 
 -- s15Fixed16Numbers (4.6): each the four bytes of its two's complement
 unfoldable pub s15Fixed16s : List ℤ → List ℕ
@@ -49,7 +47,7 @@ sf32 ns = join (Sig.sf32 ∷ zeros 4 ∷ s15Fixed16s ns ∷ [])
 unfoldable pub para : ℕ → List ℤ → List ℕ
 para f ns = join (Sig.para ∷ zeros 4 ∷ be16 f ∷ zeros 2 ∷ s15Fixed16s ns ∷ [])
 
--- the five numbers of each named curve: g, a, b, c, d of function type 3
+-- the five numbers of each named curve, g, a, b, c, d of function type 3: the table of 01 (FixedConstants)
 abbrev pub parameters : CurveName → List ℤ
 parameters Name.BT709 = pos 145636 ∷ pos 59632 ∷ pos 5904 ∷ pos 14564 ∷ pos 5308 ∷ []
 parameters Name.Linear = pos 65536 ∷ pos 65536 ∷ pos 0 ∷ pos 65536 ∷ pos 0 ∷ []

@@ -4,9 +4,10 @@ use mathlib.Core.List.{List, [], _∷_}
 use lib.IntN.{pos}
 use lib.ListN.{take, drop}
 use Rattle.numbers.specs.Words.{be32}
+use Rattle.buffer.specs.Bytes.{zeros}
 use Rattle.xyb_constants.specs.XybNumbers as Xyb
 use Rattle.profile.specs.Signatures as Sig
-use Rattle.profile.specs.TagTypes.{join, zeros, para, s15Fixed16s, uInt16s}
+use Rattle.profile.specs.TagTypes.{join, para, s15Fixed16s, uInt16s}
 
 -- three identity curves
 unfoldable pub identityCurves : List ℕ

@@ -1,10 +1,28 @@
-// The profiles: a plan and its layout are definitions (specs/). Here are the curves and the `cicp` tag of a plan, and the code that writes
-// the tag data elements. The crate `layout` lays out whole plans.
-pub mod elements;
-pub mod xyb;
-
+// The profiles: a plan and its layout are definitions (specs/). Here are a plan by value and its shape. The crate `elements` writes the tag data
+// elements, and `layout` lays out whole plans.
 ghost use mathlib.Core.Path.{_≡_};
+ghost use Rattle.profile.specs.Numbers as Plans;
 ghost use Rattle.profile.specs.Shape as Shapes;
+
+// The most letters of a text.
+pub const MAX_LETTERS: usize = 372;
+
+// The letters of an XYB plan's text.
+pub const XYB_LETTERS: usize = 7;
+
+// Where in an `mluc` element its text begins, and the bytes of a curve that is a gamma.
+pub const MLUC_TEXT: usize = 28;
+
+pub const GAMMA_SIZE: u32 = 16;
+
+// The first number of each named curve, by which it is told from the others.
+pub const BT709_GAMMA: i32 = 145636;
+
+pub const LINEAR_GAMMA: i32 = 65536;
+
+pub const SRGB_GAMMA: i32 = 157286;
+
+pub const DCI_GAMMA: i32 = 170394;
 
 // The three kinds of profile.
 pub enum Kind {
@@ -42,8 +60,7 @@ pub enum Cicp {
     Primaries(u8),
 }
 
-// A plan but for its text, which is lent beside it. Of a gray plan `cicp`, `chad` and `columns` mean nothing, of an RGB plan `white_x` and
-// `white_z`, and of the XYB plan all but the intent.
+// A plan but for its text, which is lent beside it. Where a kind has no such number the field is zero, or the first curve.
 pub struct Numbers {
     pub kind: Kind,
     pub intent: u32,
@@ -53,6 +70,57 @@ pub struct Numbers {
     pub white_z: i32,
     pub chad: [i32; 9],
     pub columns: [i32; 9],
+}
+
+pub fn gray_numbers(intent: u32, curve: Curve, white_x: i32, white_z: i32) -> Numbers
+    ensures { λ r. ⌜ r ≡ Plans.grayNumbers intent curve «white_x» «white_z» ⌝ }
+{
+    Numbers {
+        kind: Kind::Gray,
+        intent,
+        curve,
+        cicp: Cicp::Absent,
+        white_x,
+        white_z,
+        chad: [0; 9],
+        columns: [0; 9],
+    }
+}
+
+pub fn rgb_numbers(
+    intent: u32,
+    curve: Curve,
+    cicp: Cicp,
+    chad: [i32; 9],
+    columns: [i32; 9],
+) -> Numbers
+    ensures { λ r. ⌜ r ≡ Plans.rgbNumbers intent curve cicp chad columns ⌝ }
+{
+    Numbers {
+        kind: Kind::Rgb,
+        intent,
+        curve,
+        cicp,
+        white_x: 0,
+        white_z: 0,
+        chad,
+        columns,
+    }
+}
+
+pub fn xyb_numbers(intent: u32) -> Numbers
+    ensures { λ r. ⌜ r ≡ Plans.xybNumbers intent ⌝ }
+{
+    Numbers {
+        kind: Kind::Xyb,
+        intent,
+        curve: Curve::Named(CurveName::BT709),
+        cicp: Cicp::Absent,
+        white_x: 0,
+        white_z: 0,
+        chad: [0; 9],
+        columns: [0; 9],
+    }
 }
 
 pub fn is_gamma(curve: Curve) -> bool
@@ -73,26 +141,29 @@ pub fn has_cicp(cicp: Cicp) -> bool
     }
 }
 
-// The shape of a plan with so many letters of text.
-pub fn shape_of(kind: Kind, curve: Curve, cicp: Cicp, letters: usize) -> Shape
-    ensures { λ r. ⌜ r ≡ Shapes.shapeBy kind curve cicp letters ⌝ }
+// The shape of a plan with this text.
+pub fn shape_of(plan: Numbers, text: &[u8]) -> Shape
+    ensures { λ r. ⌜ r ≡ Shapes.shape (Plans.planOf plan (now (text .entry))) ⌝ }
 {
+    let kind = plan.kind;
+    let curve = plan.curve;
+    let cicp = plan.cicp;
     match kind {
         Kind::Gray => Shape {
             kind: Kind::Gray,
-            letters,
+            letters: text.len(),
             gamma: is_gamma(curve),
             cicp: false,
         },
         Kind::Rgb => Shape {
             kind: Kind::Rgb,
-            letters,
+            letters: text.len(),
             gamma: is_gamma(curve),
             cicp: has_cicp(cicp),
         },
         Kind::Xyb => Shape {
             kind: Kind::Xyb,
-            letters: 7,
+            letters: XYB_LETTERS,
             gamma: false,
             cicp: false,
         },

@@ -1,11 +1,11 @@
 -- The id is MD5 of the front as it was at entry, since it is taken first.
 -- Assumes nothing.
-use Prim.Native.Nat.{ℕ}
+use borrow.Author.Needs.{needs}
 use mathlib.Core.Path.{refl, ap₂, sym, _∙_}
 use mathlib.Core.List.{List}
+use Prim.Native.Nat.{ℕ}
 use native.Mathlib.Omega.{arith}
 use lib.Seq.{length-take-le}
-use borrow.Author.Needs.{needs}
 use Rattle.buffer.specs.Buffer.{put}
 use Rattle.layout.proofs.put_intent_and_id.Statement.{statement}
 use Rattle.layout.proofs.put_intent_and_id.Tie as tie
@@ -36,11 +36,7 @@ returns c =
     let id = c .before .before in
     let intent = id .before .before .before .before .before in
     let hash = intent .before .before in
-    let start = hash .before .before .before in (
-      refl,
-      id .put-bytes .ensures .1
-          ∙ ap₂ (λ (l q : List ℕ). put l 84 q) (intent .put-u32-be .ensures .1) (hash .compute-md5 .ensures),
-    )
+    (refl, id .put-bytes .ensures .bytes ∙ ap₂ (λ (l q : List ℕ). put l 84 q) (intent .put-u32-be .ensures .bytes) (hash .compute-md5 .ensures))
 
 pub put-intent-and-id-spec : {M : Type 1} → statement M
 put-intent-and-id-spec =

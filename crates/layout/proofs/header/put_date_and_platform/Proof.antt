@@ -1,10 +1,10 @@
--- The fields, one after another: the law `runs`.
+-- The fields, one after another: the law `run`.
 -- Assumes nothing.
+use borrow.Author.Needs.{needs}
 use mathlib.Core.Path.{refl}
 use native.Mathlib.Omega.{arith}
-use borrow.Author.Needs.{needs}
-use Rattle.numbers.specs.Words.{be16}
-use Rattle.profile.specs.RunsLaws.{there, done, runs}
+use Rattle.profile.specs.RunsLaws.{next, done, run}
+use Rattle.layout.proofs.HeaderParts.{length-date-and-platform}
 use Rattle.layout.proofs.header.put_date_and_platform.Statement.{statement}
 use Rattle.layout.proofs.header.put_date_and_platform.Tie as tie
 
@@ -30,7 +30,6 @@ same-length : tie.Need-same-length
 same-length c = search needs
 
 returns : tie.Need-returns
-unfolding be16
 returns c =
     let s6 = c .before .before in
     let s5 = s6 .before .before .before .before .before .before in
@@ -38,14 +37,15 @@ returns c =
     let s3 = s4 .before .before .before .before in
     let s2 = s3 .before .before .before .before in
     let s1 = s2 .before .before .before .before in
-    runs
-    (there refl (s1 .put-u16-be .ensures .1)
-    (there refl (s2 .put-u16-be2 .ensures .1)
-    (there refl (s3 .put-u16-be3 .ensures .1)
-    (there refl (s4 .put-zeros .ensures .1)
-    (there refl (s5 .write-icc-tag .ensures .1)
-    (there refl (s6 .write-icc-tag2 .ensures .1)
-    done)))))) (omega arith) .1
+    let start = s1 .before .before .before in
+    run _ _
+    (next (s1 .put-u16-be .ensures)
+    (next (s2 .put-u16-be2 .ensures)
+    (next (s3 .put-u16-be3 .ensures)
+    (next (s4 .put-zeros .ensures)
+    (next (s5 .write-icc-tag .ensures)
+    (next (s6 .write-icc-tag2 .ensures)
+    done)))))) (omega (arith, start .pre)) refl length-date-and-platform
 
 pub put-date-and-platform-spec : {M : Type 1} → statement M
 put-date-and-platform-spec =

@@ -1,13 +1,10 @@
--- The elements, one after another: the laws `runs` and `first-elements`.
+-- The three elements, one after another: the laws `run` and `first-parts`.
 -- Assumes nothing.
-use mathlib.Core.Path.{ap, _∙_}
+use borrow.Author.Needs.{needs}
 use native.Mathlib.Omega.{arith}
 use lib.ListN.{length}
-use borrow.Author.Needs.{needs}
-use Rattle.buffer.specs.Buffer.{put}
-use Rattle.profile.specs.RunsLaws.{next, done, runs}
-use Rattle.profile.specs.TagTypesLaws.{length-padded-mluc, length-padded-xyz}
-use Rattle.layout.proofs.KindParts.{cprt-size, first-size, first-elements}
+use Rattle.profile.specs.RunsLaws.{next, done, run}
+use Rattle.layout.proofs.KindParts.{cprt-size, first-size, first-parts, length-first}
 use Rattle.layout.proofs.kinds.put_first_elements.Statement.{statement}
 use Rattle.layout.proofs.kinds.put_first_elements.Tie as tie
 
@@ -40,15 +37,12 @@ returns c =
     let s3 = c .before .before in
     let s2 = s3 .before .before .before .before .before in
     let s1 = s2 .before .before .before .before .before in
-    let start = s1 .before .before .before .before in (
-      omega (arith, cprt-size, first-size (length (start .args .text .now))),
-      runs
-          (next (length-padded-mluc _) (s1 .create-icc-mluc-tag .ensures)
-          (next (length-padded-mluc _) (s2 .create-icc-mluc-tag2 .ensures)
-          (next (length-padded-xyz _) (s3 .create-icc-xyz-tag .ensures)
-          done))) (omega (arith, start .pre)) .1
-          ∙ ap (put (start .args .out .now) (start .args .at)) (first-elements (start .args .text .now) (start .args .t4)),
-    )
+    let start = s1 .before .before .before .before in
+    run _ _
+    (next (s1 .create-icc-mluc-tag .ensures)
+    (next (s2 .create-icc-mluc-tag2 .ensures)
+    (next (s3 .create-icc-xyz-tag .ensures)
+    done))) (omega (arith, start .pre)) (first-parts _ _) (length-first (start .args .text .now) (start .args .t4) (omega (arith, start .good)))
 
 pub put-first-elements-spec : {M : Type 1} → statement M
 put-first-elements-spec =

@@ -1,0 +1,59 @@
+-- A plan in code: its numbers by value, its text beside them. Where a kind has no such number the field is zero. Assumes nothing.
+use Prim.Native.Nat.{ℕ}
+use mathlib.Core.List.{List, []}
+use lib.ListN.{replicate}
+use lib.IntN.{ℤ, pos}
+use Rattle.profile.specs.Plan.{Plan, Content, gray, rgb, xyb}
+use Rattle.profile.specs.declared.Kind.{Kind}
+use Rattle.profile.specs.declared.Kind.the-variants.{Gray, Rgb, Xyb}
+use Rattle.profile.specs.declared.Numbers.{Numbers}
+use Rattle.profile.specs.declared.CurveName.the-variants.{BT709}
+use Rattle.profile.specs.declared.Curve.{Curve}
+use Rattle.profile.specs.declared.Curve.the-variants.{Named}
+use Rattle.profile.specs.declared.Cicp.{Cicp}
+use Rattle.profile.specs.declared.Cicp.the-variants.{Absent}
+
+-- ---- the plan that numbers and a text make
+
+abbrev pub contentBy : Kind → Numbers → List ℕ → Content
+contentBy Gray p t = gray (record { text = t; curve = p .curve; white-x = p .«white_x»; white-z = p .«white_z» })
+contentBy Rgb p t = rgb (record { text = t; curve = p .curve; chad = p .chad; columns = p .columns; cicp = p .cicp })
+contentBy Xyb p t = xyb
+
+abbrev pub planOf : Numbers → List ℕ → Plan
+planOf p t = record { intent = p .intent; content = contentBy (p .kind) p t }
+
+-- ---- the numbers and the text of a plan
+
+abbrev nineZeros : List ℤ
+nineZeros = replicate 9 (pos 0)
+
+abbrev pub grayNumbers : ℕ → Curve → ℤ → ℤ → Numbers
+grayNumbers i c x z =
+    record { kind = Gray; intent = i; curve = c; cicp = Absent; «white_x» = x; «white_z» = z; chad = nineZeros; columns = nineZeros }
+
+abbrev pub rgbNumbers : ℕ → Curve → Cicp → List ℤ → List ℤ → Numbers
+rgbNumbers i c v m k =
+    record { kind = Rgb; intent = i; curve = c; cicp = v; «white_x» = pos 0; «white_z» = pos 0; chad = m; columns = k }
+
+-- the first curve stands for none
+abbrev pub xybNumbers : ℕ → Numbers
+xybNumbers i =
+    record { kind = Xyb; intent = i; curve = Named BT709; cicp = Absent; «white_x» = pos 0; «white_z» = pos 0; chad = nineZeros; columns = nineZeros }
+
+abbrev pub numbersFor : ℕ → Content → Numbers
+numbersFor i (gray g) = grayNumbers i (g .curve) (g .white-x) (g .white-z)
+numbersFor i (rgb g) = rgbNumbers i (g .curve) (g .cicp) (g .chad) (g .columns)
+numbersFor i xyb = xybNumbers i
+
+abbrev pub numbersOf : Plan → Numbers
+numbersOf p = numbersFor (p .intent) (p .content)
+
+-- XYB has no free text
+abbrev pub textFor : Content → List ℕ
+textFor (gray g) = g .text
+textFor (rgb g) = g .text
+textFor xyb = []
+
+abbrev pub textOf : Plan → List ℕ
+textOf p = textFor (p .content)

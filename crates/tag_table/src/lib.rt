@@ -1,0 +1,114 @@
+// The tag table (ICC.1:2022, 7.3): the number of tags, and a signature, an offset and a size for each.
+pub mod tags;
+
+ghost use mathlib.Core.Path.{_≡_};
+ghost use Prim.Native.Nat.{_+_, _*_, _≤_};
+ghost use lib.ListN as ListN;
+ghost use Rattle.buffer.specs.Buffer.{put};
+ghost use Rattle.buffer.specs.Puts.{Puts};
+ghost use Rattle.profile.specs.Elements as Elements;
+ghost use Rattle.profile.specs.Plan.{maxLetters};
+ghost use Rattle.profile.specs.Shape.{slotsOf, maxLength};
+ghost use Rattle.tag_table.specs.Tags as Listing;
+use crate::tags::Tag;
+use crate::tags::tags_of;
+use elements::write_icc_tag;
+use profile::Shape;
+
+pub const HEADER_SIZE: usize = 128;
+
+// The bytes of the number of tags.
+const COUNT_SIZE: usize = 4;
+
+pub const ENTRY_SIZE: usize = 12;
+
+// The most bytes of a profile.
+pub const MAX_LENGTH: usize = 1240;
+
+// Where the element of a tag starts, and where it ends with its padding.
+struct Place {
+    offset: u32,
+    end: u32,
+}
+
+// The place of a tag's element, from that of the tag before it.
+fn placed(before: Place, tag: Tag) -> Place
+    requires { ⌜ Listing.placed before tag .end ≤ maxLength ⌝ }
+    ensures { λ r. ⌜ r ≡ Listing.placed before tag ⌝ }
+{
+    if tag.shared {
+        return before;
+    }
+    let padding = elements::padding(tag.size as usize) as u32;
+    Place {
+        offset: before.end,
+        end: before.end + (tag.size + padding),
+    }
+}
+
+// Where the elements start, in a profile with so many tags.
+fn start(count: usize) -> usize
+    requires { ⌜ count ≤ Listing.maxTags ⌝ }
+    ensures { λ r. ⌜ r ≡ 132 + 12 * count ⌝ }
+{
+    HEADER_SIZE + COUNT_SIZE + ENTRY_SIZE * count
+}
+
+// Before the first element.
+fn begin(count: usize) -> Place
+    requires { ⌜ count ≤ Listing.maxTags ⌝ }
+    ensures { λ r. ⌜ r ≡ Listing.begin count ⌝ }
+{
+    let at = start(count) as u32;
+    Place {
+        offset: at,
+        end: at,
+    }
+}
+
+// How many bytes the layout of a plan of this shape has: where its last element ends.
+pub fn length(shape: Shape) -> usize
+    requires { ⌜ shape .letters ≤ maxLetters ⌝ }
+    ensures { λ r. ⌜ r ≡ Elements.fileLength (slotsOf shape) ⌝ }
+{
+    let listed = tags_of(shape);
+    let tags = listed.tags;
+    let count = listed.count;
+    let mut place = begin(count);
+    let mut i = 0;
+    while i < count {
+        place = placed(place, tags[i]);
+        i += 1;
+    }
+    place.end as usize
+}
+
+fn put_tag(out: &mut [u8], at: usize, tag: Tag, offset: u32) -> usize
+    requires { ⌜ at + 12 ≤ ListN.length (now out) ⌝ }
+    ensures { λ r. ⌜ Puts (now (out .entry)) at 12 (Elements.entryBytes (Elements.entry offset (tag .size) (tag .signature))) r (now (out .exit)) ⌝ }
+{
+    let signature = tag.signature;
+    let at = write_icc_tag(out, at, signature);
+    let at = numbers::put_u32_be(out, at, offset);
+    numbers::put_u32_be(out, at, tag.size)
+}
+
+// The tag table of a shape. Answers where the elements start.
+pub fn put_table(out: &mut [u8], shape: Shape) -> usize
+    requires { ⌜ (shape .letters ≤ maxLetters) × (Elements.start (slotsOf shape) ≤ ListN.length (now out)) ⌝ }
+    ensures { λ r. ⌜ (r ≡ Elements.start (slotsOf shape)) × (now (out .exit) ≡ put (now (out .entry)) 128 (Elements.table (slotsOf shape))) ⌝ }
+{
+    let listed = tags_of(shape);
+    let tags = listed.tags;
+    let count = listed.count;
+    let mut place = begin(count);
+    let mut at = numbers::put_u32_be(out, HEADER_SIZE, count as u32);
+    let mut i = 0;
+    while i < count {
+        let tag = tags[i];
+        place = placed(place, tag);
+        at = put_tag(out, at, tag, place.offset);
+        i += 1;
+    }
+    at
+}
