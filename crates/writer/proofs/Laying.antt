@@ -9,13 +9,13 @@ use mir.Syntax.{w32}
 use mir.Val.{Fits}
 use borrow.Author.Tests.{le-leb, lt-leb}
 use Rattle.buffer.specs.Buffer.{put}
-use Rattle.profile.specs.Plan.{Plan}
-use Rattle.profile.specs.Shape.{slotsOf, shape}
+use Rattle.profile.specs.Plan.{Plan, maxLetters}
+use Rattle.profile.specs.Shape.{shape}
 use Rattle.profile.specs.PlanLaws.{Nines, at-most}
 use Rattle.profile.specs.Layout.{layout}
 use Rattle.profile.specs.LayoutLaws.{length-layout}
 use Rattle.buffer.specs.Checked.{Checked, is, refused}
-use Rattle.writer.specs.Writer.{answer, output}
+use Rattle.writer.specs.Writer.{answer, output, Writes}
 use Rattle.writer.specs.declared.Profile.{Profile}
 use Rattle.writer.specs.declared.Profile.the-variants.{Written, Refused}
 
@@ -28,30 +28,27 @@ letters-within d {bytes} z {n} e h = rw (h, e, length-append) (omega arith)
 
 -- ---- a layout fits 32 bits
 
-pub short-layout : (p : Plan) → Nines (p .content) → shape p .letters ≤ 372 → {r : ℕ} → r ≡ length (layout p) → Fits w32 r
-unfolding slotsOf
-short-layout p h s {r} e =
-    record {
-      fits = omega (arith, e, length-layout p h, at-most (shape p .kind) (shape p .letters) (shape p .gamma) (shape p .cicp) s);
-    }
+pub short-layout : (p : Plan) → Nines (p .content) → shape p .letters ≤ maxLetters → {r : ℕ} → r ≡ length (layout p) → Fits w32 r
+short-layout p h s {r} e = record { fits = omega (arith, e, length-layout p h, at-most (shape p) s) }
 
 -- ---- the two answers; n is the length of the layout
 
-pub too-short : (p : Plan) (out : List ℕ) (n : ℕ) → n ≡ length (layout p) → length out < n
-    → (Refused 9 ≡ answer (is p) (length out)) × (out ≡ output (is p) out)
-too-short p out n e h = let less : length out < length (layout p) = rw e at h in (simp (lt-leb _ _ less), simp (lt-leb _ _ less))
+pub too-short : (p : Plan) (out : List ℕ) (n : ℕ) → n ≡ length (layout p) → length out < n → Writes (λ r. r) (is p) out out (Refused 9)
+too-short p out n e h =
+    let less : length out < length (layout p) = rw e at h in
+    record { answer = simp (lt-leb _ _ less); output = simp (lt-leb _ _ less) }
 
-pub laid-out : (p : Plan) (out left : List ℕ) (n r : ℕ) → n ≡ length (layout p) → n ≤ length out
-    → (r ≡ length (layout p)) × (left ≡ put out 0 (layout p)) → (Written r ≡ answer (is p) (length out)) × (left ≡ output (is p) out)
+pub laid-out :
+    (p : Plan) (out left : List ℕ) (n r : ℕ) → n ≡ length (layout p) → n ≤ length out →
+    (r ≡ length (layout p)) × (left ≡ put out 0 (layout p)) → Writes (λ r. r) (is p) out left (Written r)
 laid-out p out left n r e h w =
     let room : length (layout p) ≤ length out = rw e at h in
-    (ap Written (w .0) ∙ simp (le-leb _ _ room), w .1 ∙ simp (le-leb _ _ room))
+    record { answer = ap Written (w .0) ∙ simp (le-leb _ _ room); output = w .1 ∙ simp (le-leb _ _ room) }
 
 -- ---- the answer of a plan that is known
 
-pub refusal : {p : Checked Plan} {k : ℕ} (out : List ℕ) → p ≡ refused k → (Refused k ≡ answer p (length out)) × (out ≡ output p out)
-refusal {p} {k} out e = (sym (ap (λ (q : Checked Plan). answer q (length out)) e), sym (ap (λ (q : Checked Plan). output q out) e))
+pub refusal : {p : Checked Plan} {k : ℕ} (out : List ℕ) → p ≡ refused k → Writes (λ r. r) p out out (Refused k)
+refusal {p} {k} out e = record { answer = sym (ap (λ (q : Checked Plan). answer q (length out)) e); output = sym (ap (λ (q : Checked Plan). output q out) e) }
 
-pub plan-known : {p q : Checked Plan} (out left : List ℕ) (r : Profile) → p ≡ q
-    → (r ≡ answer q (length out)) × (left ≡ output q out) → (r ≡ answer p (length out)) × (left ≡ output p out)
-plan-known {p} {q} out left r e w = (w .0 ∙ sym (ap (λ (c : Checked Plan). answer c (length out)) e), w .1 ∙ sym (ap (λ (c : Checked Plan). output c out) e))
+pub plan-known : {p q : Checked Plan} {out left : List ℕ} {r : Profile} → p ≡ q → Writes (λ r. r) q out left r → Writes (λ r. r) p out left r
+plan-known e w = rw e w

@@ -1,7 +1,6 @@
-pub mod FixedRange
-pub mod FixedOrLaws
 pub mod PlanLaws
 pub mod PlanValid
+pub mod WrittenLengthLaws
 pub mod WrittenLength
-pub mod Demand2
+pub mod RefusalNumbersLaws
 pub mod RefusalNumbers

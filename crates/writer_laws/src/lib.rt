@@ -1,1 +1,1 @@
-// The theorems about the writer are in specs/. There is no code here.
+// The theorems about the plans that the writer lays out are in specs/. There is no code here.

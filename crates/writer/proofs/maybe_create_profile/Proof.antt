@@ -1,66 +1,37 @@
--- `maybe_create_profile` meets its contract: each kind has its function, and which one the encoding is the match tells.
-use mathlib.Core.Path.{ap}
+-- `maybe_create_profile` meets its contract: a refusal of `plan_of` is that of `planOf`; an accepted white is in range, so that the text is short
+-- enough (`WhiteLaws`), and `put_plan` lays the plan out.
+use mathlib.Core.Path.{_≡_, refl, sym, _∙_}
 use borrow.Author.Needs.{needs}
-use Rattle.writer.specs.PlanOf.{planOf}
-use Rattle.writer.proofs.Laying.{plan-known}
+use Rattle.buffer.specs.Checked.{is}
+use Rattle.text.specs.Description.{description}
+use Rattle.profile.specs.Numbers as Plans
+use Rattle.encoding_plan.specs.PlanOf.{planOf}
+use Rattle.encoding_plan.specs.AnswersLaws.{plan-refused, plan-given}
+use Rattle.encoding_plan.specs.WhiteLaws.{planned-in-range}
+use Rattle.writer.proofs.Laying.{refusal, plan-known}
 use Rattle.writer.proofs.maybe_create_profile.Statement.{statement}
 use Rattle.writer.proofs.maybe_create_profile.Tie as tie
 
-enum-known-encoding : tie.Need-enum-known-encoding
-enum-known-encoding c = search needs
+plan-of-requires : tie.Need-plan-of-requires
+plan-of-requires c κs = search needs
 
-write-rgb-requires : tie.Need-write-rgb-requires
-write-rgb-requires c κs = search needs
+given : (c : tie.Else1) →
+    planOf (c .before .before .before .before .args .encoding)
+    ≡ is (Plans.planOf (c .before .before .plan-of .result .plan) (description (c .before .before .before .before .args .encoding)))
+given c = sym (c .before .before .plan-of .ensures) ∙ plan-given (c .before .before .plan-of .result) _ (c .if1 .left)
 
-enum-known-encoding-2 : tie.Need-enum-known-encoding-2
-enum-known-encoding-2 c = search needs
+returns : tie.Need-returns
+returns c = refusal _ (sym (c .before .before .plan-of .ensures) ∙ plan-refused (c .before .before .plan-of .result) _ refl (c .if1 .taken))
 
-write-gray-requires : tie.Need-write-gray-requires
-write-gray-requires c κs = search needs
-
-enum-known-encoding-3 : tie.Need-enum-known-encoding-3
-enum-known-encoding-3 c = search needs
-
-write-xyb-requires : tie.Need-write-xyb-requires
-write-xyb-requires c κs = search needs
+put-plan-requires : tie.Need-put-plan-requires
+put-plan-requires c κs = planned-in-range _ (given (c .before .before))
 
 same-length : tie.Need-same-length
 same-length c = search needs
 
-returns : tie.Need-returns
-returns c =
-    let call = c .before .before in
-    plan-known _ _ _ (ap planOf (call .before .before .before .encoding .given .1)) (call .write-rgb .ensures)
-
-same-length-2 : tie.Need-same-length-2
-same-length-2 c = search needs
-
 returns-2 : tie.Need-returns-2
-returns-2 c =
-    let call = c .before .before in
-    plan-known _ _ _ (ap planOf (call .before .before .before .encoding2 .given .1)) (call .write-gray .ensures)
-
-same-length-3 : tie.Need-same-length-3
-same-length-3 c = search needs
-
-returns-3 : tie.Need-returns-3
-returns-3 c =
-    let call = c .before .before in
-    plan-known _ _ _ (ap planOf (call .before .before .before .encoding3 .given .1)) (call .write-xyb .ensures)
+returns-2 c = let put = c .before .before in plan-known (given (put .before .before .before)) (put .put-plan .ensures)
 
 pub maybe-create-profile-spec : {M : Type 1} → statement M
 maybe-create-profile-spec =
-    tie.close
-    (tie.spec
-    enum-known-encoding
-    write-rgb-requires
-    enum-known-encoding-2
-    write-gray-requires
-    enum-known-encoding-3
-    write-xyb-requires
-    same-length
-    returns
-    same-length-2
-    returns-2
-    same-length-3
-    returns-3)
+    tie.close (tie.spec plan-of-requires returns put-plan-requires same-length returns-2)

@@ -5,9 +5,10 @@ use mathlib.Core.List.{List}
 use lib.ListN.{length, take}
 use borrow.Author.Needs.{needs}
 use Rattle.text.specs.Description.{description}
-use Rattle.profile.specs.Plan.{Plan, planOf}
-use Rattle.profile.specs.PlanLaws.{Nines, shape-by, letters-by, nines-by}
-use Rattle.profile.specs.Shape.{shape, shapeBy}
+use Rattle.profile.specs.Plan.{Plan, maxLetters}
+use Rattle.profile.specs.Numbers.{planOf}
+use Rattle.profile.specs.PlanLaws.{Nines, letters-by, nines-by}
+use Rattle.profile.specs.Shape.{shape}
 use Rattle.profile.specs.Layout.{layout}
 use Rattle.profile.specs.LayoutLaws.{length-layout}
 use Rattle.profile.specs.declared.Numbers.{Numbers}
@@ -29,16 +30,16 @@ module _ (c : tie.After-get-color-encoding-description) where
   planned = planOf plan text
 
   text-is : written ≡ text
-  text-is = letters text (449 - length text) (c .get-color-encoding-description .ensures .0) (c .get-color-encoding-description .ensures .1)
+  text-is = letters text (449 - length text) (c .get-color-encoding-description .ensures .len) (c .get-color-encoding-description .ensures .bytes)
 
   -- what `layout` is asked to lay out
   passed-on : planOf plan written ≡ planned
   passed-on = ap (planOf plan) text-is
 
-  short : length text ≤ 372
-  short = c .get-color-encoding-description .ensures .2 .accepted (c .before .before .pre)
+  short : length text ≤ maxLetters
+  short = c .get-color-encoding-description .ensures .short .accepted (c .before .before .pre)
 
-  few : shape planned .letters ≤ 372
+  few : shape planned .letters ≤ maxLetters
   few = letters-by plan text short
 
   nines : Nines (planned .content)
@@ -46,48 +47,53 @@ module _ (c : tie.After-get-color-encoding-description) where
 
 module _ (c : tie.After-shape-of) where
   abbrev described : tie.After-get-color-encoding-description
-  described = c .before .before
+  described = c .before .before .before
 
   shaped : c .shape-of .result ≡ shape (planned described)
-  shaped =
-      let p = plan described in
-      c .shape-of .ensures ∙ ap (shapeBy (p .kind) (p .curve) (p .cicp)) (described .get-color-encoding-description .ensures .0) ∙ sym (shape-by p (text described))
-
-length-requires : tie.Need-length-requires
-length-requires c κs = rw (shaped c) (few (described c))
+  shaped = c .shape-of .ensures ∙ ap shape (passed-on described)
 
 size : (c : tie.After-length) → c .length .result ≡ length (layout (planned (described (c .before))))
 size c = let d = described (c .before) in (rw (shaped (c .before)) at (c .length .ensures)) ∙ sym (length-layout (planned d) (nines d))
 
-returns : tie.Need-returns
-returns c = too-short (planned (described (c .before .before))) _ _ (size (c .before)) (c .if1 .taken)
+get-color-encoding-description-requires : tie.Need-get-color-encoding-description-requires
+get-color-encoding-description-requires c κs = search needs
 
 array-share-prefix-bytes : tie.Need-array-share-prefix-bytes
 array-share-prefix-bytes c =
-    let d = described (c .before .before .before) in
-    letters-within (text d) (449 - length (text d)) (d .get-color-encoding-description .ensures .0) (d .get-color-encoding-description .ensures .1)
+    let d = c .before in
+    letters-within (text d) (449 - length (text d)) (d .get-color-encoding-description .ensures .len) (d .get-color-encoding-description .ensures .bytes)
 
-slice-aggregate-put-plan : tie.Need-slice-aggregate-put-plan
-slice-aggregate-put-plan c =
-    let d = described (c .before .before .before .before) in
-    d .get-color-encoding-description .ensures .0 ∙ ap length (sym (text-is d))
+slice-aggregate-letters : tie.Need-slice-aggregate-letters
+slice-aggregate-letters c = let d = c .before .before in d .get-color-encoding-description .ensures .len ∙ ap length (sym (text-is d))
+
+shape-of-requires : tie.Need-shape-of-requires
+shape-of-requires c κs = search needs
+
+length-requires : tie.Need-length-requires
+length-requires c κs = rw (shaped c) (few (described c))
+
+returns : tie.Need-returns
+returns c = too-short (planned (described (c .before .before))) _ _ (size (c .before)) (c .if1 .taken)
 
 put-plan-requires : tie.Need-put-plan-requires
 put-plan-requires c κs =
-    let sized = c .before .before .before in
+    let sized = c .before .before in
     let d = described (sized .before) in
-    (rw (text-is d) (short d), rw (passed-on d, ← size sized) (c .before .before .if1 .left))
+    (rw (text-is d) (short d), rw (passed-on d, ← size sized) (c .before .if1 .left))
 
-cast-t18 : tie.Need-cast-t18
-cast-t18 c =
+cast-t15 : tie.Need-cast-t15
+cast-t15 c =
     let put = c .before .before in
-    let d = described (put .before .before .before .before .before) in
+    let d = described (put .before .before .before .before) in
     short-layout (planned d) (nines d) (few d) ((rw (passed-on d) at (put .put-plan .ensures)) .0)
+
+same-length : tie.Need-same-length
+same-length c = search needs
 
 returns-2 : tie.Need-returns-2
 returns-2 c =
     let put = c .before .before in
-    let room = put .before .before .before in
+    let room = put .before .before in
     let d = described (room .before .before) in
     laid-out (planned d) _ _ _ _ (size (room .before)) (room .if1 .left) (rw (passed-on d) at (put .put-plan .ensures))
 
@@ -95,13 +101,13 @@ pub put-plan-spec : {M : Type 1} → statement M
 put-plan-spec =
     tie.close
     (tie.spec
-    (λ c κs. search needs)
-    (λ c κs. search needs)
+    get-color-encoding-description-requires
+    array-share-prefix-bytes
+    slice-aggregate-letters
+    shape-of-requires
     length-requires
     returns
-    array-share-prefix-bytes
-    slice-aggregate-put-plan
     put-plan-requires
-    cast-t18
-    (λ c. search needs)
+    cast-t15
+    same-length
     returns-2)

@@ -1,0 +1,5 @@
+pub mod Answers
+pub mod PlanOf
+pub mod AnswersLaws
+pub mod PlanOfLaws
+pub mod WhiteLaws

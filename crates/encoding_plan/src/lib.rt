@@ -1,0 +1,130 @@
+// The plan of an encoding, or its refusal.
+mod curve;
+mod fixed;
+
+use color_encoding::JxlColorEncoding;
+use color_encoding::JxlPrimaries;
+use color_encoding::JxlTransferFunction;
+use color_encoding::JxlWhitePoint;
+use color_encoding::RenderingIntent;
+use curve::CurveAnswer;
+use curve::Support;
+use profile::Numbers;
+ghost use mathlib.Core.Path.{_≡_};
+ghost use Rattle.encoding_plan.specs.PlanOf.{planOf};
+ghost use Rattle.encoding_plan.specs.Answers.{checkedPlan};
+
+// A plan but for its text, or its refusal, which is 0 where there is none; then the plan means nothing.
+pub struct EncodingPlan {
+    pub refusal: u32,
+    pub plan: Numbers,
+}
+
+fn refused(number: u32) -> EncodingPlan
+    ensures { λ r. ⌜ r .refusal ≡ number ⌝ }
+{
+    let plan = profile::xyb_numbers(0);
+    EncodingPlan {
+        refusal: number,
+        plan,
+    }
+}
+
+fn gray_plan(
+    white: JxlWhitePoint,
+    transfer: JxlTransferFunction,
+    intent: RenderingIntent,
+) -> EncodingPlan
+    ensures { λ r. ⌜ checkedPlan r (JxlColorEncoding.GrayscaleColorSpace white transfer intent) ≡ planOf (JxlColorEncoding.GrayscaleColorSpace white transfer intent) ⌝ }
+{
+    match curve::supported(transfer) {
+        Support::Unsupported => refused(1),
+        Support::Curve(named_or_gamma) => {
+            let numbers = fixed::gray_numbers(white.to_xy_coords());
+            if numbers.refusal != 0 {
+                return refused(numbers.refusal);
+            }
+            match curve::curve_of(named_or_gamma) {
+                CurveAnswer::OutOfRange => refused(8),
+                CurveAnswer::Curve(curve) => {
+                    let plan = profile::gray_numbers(intent.number(), curve, numbers.x, numbers.z);
+                    EncodingPlan { refusal: 0, plan }
+                }
+            }
+        }
+    }
+}
+
+fn rgb_plan(
+    white: JxlWhitePoint,
+    primaries: JxlPrimaries,
+    transfer: JxlTransferFunction,
+    intent: RenderingIntent,
+) -> EncodingPlan
+    ensures { λ r. ⌜ checkedPlan r (JxlColorEncoding.RgbColorSpace white primaries transfer intent) ≡ planOf (JxlColorEncoding.RgbColorSpace white primaries transfer intent) ⌝ }
+{
+    match curve::supported(transfer) {
+        Support::Unsupported => refused(1),
+        Support::Curve(named_or_gamma) => {
+            let white_xy = white.to_xy_coords();
+            let chad = fixed::chad_numbers(white_xy);
+            if chad.refusal != 0 {
+                return refused(chad.refusal);
+            }
+            let columns = fixed::column_numbers(primaries.to_xy_coords(), white_xy);
+            if columns.refusal != 0 {
+                return refused(columns.refusal);
+            }
+            match curve::curve_of(named_or_gamma) {
+                CurveAnswer::OutOfRange => refused(8),
+                CurveAnswer::Curve(curve) => {
+                    let cicp = curve::cicp_of(white, primaries, curve);
+                    let chad_values = chad.values;
+                    let column_values = columns.values;
+                    let plan = profile::rgb_numbers(
+                        intent.number(),
+                        curve,
+                        cicp,
+                        chad_values,
+                        column_values,
+                    );
+                    EncodingPlan { refusal: 0, plan }
+                }
+            }
+        }
+    }
+}
+
+// XYB has the one plan and the one intent.
+fn xyb_plan(intent: RenderingIntent) -> EncodingPlan
+    ensures { λ r. ⌜ checkedPlan r (JxlColorEncoding.XYB intent) ≡ planOf (JxlColorEncoding.XYB intent) ⌝ }
+{
+    match intent {
+        RenderingIntent::Perceptual => {
+            let plan = profile::xyb_numbers(0);
+            EncodingPlan { refusal: 0, plan }
+        }
+        RenderingIntent::Relative => refused(2),
+        RenderingIntent::Saturation => refused(2),
+        RenderingIntent::Absolute => refused(2),
+    }
+}
+
+pub fn plan_of(encoding: JxlColorEncoding) -> EncodingPlan
+    ensures { λ r. ⌜ checkedPlan r encoding ≡ planOf encoding ⌝ }
+{
+    match encoding {
+        JxlColorEncoding::RgbColorSpace {
+            white_point,
+            primaries,
+            transfer_function,
+            rendering_intent,
+        } => rgb_plan(white_point, primaries, transfer_function, rendering_intent),
+        JxlColorEncoding::GrayscaleColorSpace {
+            white_point,
+            transfer_function,
+            rendering_intent,
+        } => gray_plan(white_point, transfer_function, rendering_intent),
+        JxlColorEncoding::XYB { rendering_intent } => xyb_plan(rendering_intent),
+    }
+}
