@@ -8,13 +8,8 @@ use lib.ListN.{length, take, drop, set, getD}
 use lib.Seq.{length-take-le, take-add, drop-cons}
 use Rattle.buffer.specs.Buffer.{put}
 use Rattle.buffer.specs.BufferLaws.{one-store, put-put, length-put}
-use Rattle.reading.specs.Recover.{lowBytes}
-
-low-length : (p : List ℕ) (n : ℕ) → length p ≡ 2 * n → length (lowBytes p) ≡ n
-unfolding lowBytes
-low-length [] n e = omega arith
-low-length (x ∷ []) n e = absurd (omega arith)
-low-length (x ∷ (y ∷ p)) n e = omega (arith, low-length p (n - 1) (omega arith))
+use Rattle.reader_spec.specs.PlanIn.{lowBytes}
+use Rattle.reader_spec.specs.PlanInLaws.{length-low}
 
 low-append : (p q : List ℕ) (n : ℕ) → length p ≡ 2 * n → lowBytes (p ++ q) ≡ lowBytes p ++ lowBytes q
 unfolding lowBytes
@@ -37,7 +32,7 @@ module _ (text l : List ℕ) (i : ℕ) (room : i < length text) (more : 2 * i + 
   one-more =
       let p = lowBytes (take (2 * i) l) in
       let low = getD l (2 * i + 1) 0 ∷ [] in
-      let n : i ≡ 0 + length p = omega (arith, low-length (take (2 * i) l) i (length-take-le (2 * i) l (omega arith))) in
+      let n : i ≡ 0 + length p = omega (arith, length-low i l (omega arith)) in
       one-store (put text 0 p) i _ (omega (arith, length-put text 0 p (omega arith)))
       ∙ ap (λ (k : ℕ). put (put text 0 p) k low) n
       ∙ put-put text 0 p low (omega arith)

@@ -1,6 +1,6 @@
 -- One number after another, by place. Assumes nothing.
 use Prim.Native.Nat.{ℕ, zero, suc, _+_, _*_, _^_, _<_}
-use mathlib.Core.Path.{_≡_, refl, ap, _∙_}
+use mathlib.Core.Path.{_≡_, refl, ap, sym, _∙_}
 use mathlib.Core.List.{List, [], _∷_, _++_}
 use native.Mathlib.Omega.{arith}
 use native.Mathlib.Nat.{add-assoc}
@@ -12,11 +12,16 @@ use mir.Syntax.{w32}
 use mir.Val.{toZ, ofZ, hbits}
 use mir.ValLaws.{toZ-ofZ}
 use borrow.Author.Needs.{sfits-of}
-use Rattle.reading.specs.Recover.{numberIn, numbersFrom}
+use Rattle.reader_spec.specs.Table.{lineIn}
+use Rattle.reader_spec.specs.PlanIn.{numberIn, numbersFrom, elementIn}
 
 -- a number that a call gave, as it is held
 pub held : {z n : ℤ} → mag z < 2 ^ hbits w32 → z ≡ n → toZ w32 (ofZ w32 z) ≡ n
 held {z} h e = toZ-ofZ w32 z (sfits-of h) ∙ e
+
+-- a place in an element, by the offset that its line states
+pub at-element : (f : List ℕ) (i a : ℕ) {o : ℕ} → o ≡ lineIn f i .offset → drop (o + a) f ≡ drop a (elementIn f i)
+at-element f i a e = rw e (sym (drop-drop a (lineIn f i .offset) f))
 
 pub numbers-snoc : (n : ℕ) (l : List ℕ) → numbersFrom (suc n) l ≡ numbersFrom n l ++ (numberIn (drop (4 * n) l) ∷ [])
 unfolding numbersFrom

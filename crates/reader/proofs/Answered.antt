@@ -1,11 +1,10 @@
--- What the code returns by the number of `against` is the reader's answer: no check has the number 0. Assumes nothing.
+-- What a number says of the answer: no check has the number 0. Assumes nothing.
 use Prim.Native.Nat.{ℕ, _≤_}
-use mathlib.Core.Path.{_≡_, refl}
+use mathlib.Core.Path.{_≡_, refl, ap}
 use native.Mathlib.Omega.{arith}
-use Rattle.profile.specs.Plan.{Plan, Content, gray, rgb, xyb}
-use Rattle.reading.specs.Reader.{Answer, refused, accepted, Check, number, c21, c22, c23, c24, c25, c26, c27, c28}
-use Rattle.reading.specs.AgainstLaws.{By, accepts, refuses}
-use Rattle.reader.specs.Reading.{contentReading, reading, refusedWith}
+use Rattle.profile.specs.Plan.{Plan}
+use Rattle.reader_spec.specs.RefusalList.{Answer, refused, accepted, Check, number, refusalNumber, c21, c22, c23, c24, c25, c26, c27, c28}
+use Rattle.reader.specs.Reading.{reading, refusedWith}
 
 some-number : (c : Check) → 1 ≤ number c
 some-number c21 = omega arith
@@ -17,24 +16,13 @@ some-number c26 = omega arith
 some-number c27 = omega arith
 some-number c28 = omega arith
 
-pub refused-by : {p : Plan} {a : Answer} {n : ℕ} → By p a n → ¬ (n ≡ 0) → refusedWith n ≡ reading a
-refused-by accepts h = absurd (h refl)
-refused-by refuses h = refl
-
-pub accepted-by : {p : Plan} {a : Answer} {n : ℕ} → By p a n → n ≡ 0 → reading (accepted p) ≡ reading a
-accepted-by accepts h = refl
-accepted-by (refuses {c}) h = absurd (omega (arith, some-number c))
-
--- ---- what a returned number says of the answer
-
-accepted-zero : (i : ℕ) (c : Content) → contentReading i c .refusal ≡ 0
-accepted-zero i (gray t c x z) = refl
-accepted-zero i (rgb t c m k v) = refl
-accepted-zero i xyb = refl
+pub refused-by : (a : Answer) {n : ℕ} → n ≡ refusalNumber a → ¬ (n ≡ 0) → refusedWith n ≡ reading a
+refused-by (refused c) e h = ap refusedWith e
+refused-by (accepted p) e h = absurd (h e)
 
 pub was-refused : (a : Answer) → ¬ (reading a .refusal ≡ 0) → (c : Check) × (a ≡ refused c)
 was-refused (refused c) h = (c, refl)
-was-refused (accepted p) h = absurd (h (accepted-zero (p .intent) (p .content)))
+was-refused (accepted p) h = absurd (h refl)
 
 pub was-accepted : (a : Answer) → reading a .refusal ≡ 0 → (p : Plan) × (a ≡ accepted p)
 was-accepted (refused c) h = absurd (omega (arith, some-number c))

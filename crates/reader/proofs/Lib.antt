@@ -1,6 +1,2 @@
 pub mod Answered
-pub mod Headers
-pub mod Plans
-pub mod RgbBodies
-pub mod Tables
-pub mod Texts
+pub mod HeaderTests

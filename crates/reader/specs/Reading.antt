@@ -3,19 +3,27 @@ use Prim.Native.Nat.{ℕ, _-_}
 use mathlib.Core.List.{List, _++_}
 use lib.IntN.{ℤ, pos}
 use lib.ListN.{length, replicate}
-use Rattle.profile.specs.Plan.{Content, gray, rgb, xyb}
+use Rattle.profile.specs.Plan.{maxLetters}
+use Rattle.profile.specs.Numbers.{numbersOf, textOf}
+use Rattle.profile.specs.declared.Kind.{Kind}
+use Rattle.profile.specs.declared.Kind.the-variants.{Gray, Rgb, Xyb}
+use Rattle.profile.specs.declared.Numbers.{Numbers}
 use Rattle.profile.specs.declared.CurveName.{CurveName}
 use Rattle.profile.specs.declared.CurveName.the-variants as Name
 use Rattle.profile.specs.declared.Curve.{Curve}
 use Rattle.profile.specs.declared.Curve.the-variants.{Named, Gamma}
 use Rattle.profile.specs.declared.Cicp.{Cicp}
 use Rattle.profile.specs.declared.Cicp.the-variants.{Absent, Primaries}
-use Rattle.reading.specs.Reader.{Answer, refused, accepted, number}
+use Rattle.reader_spec.specs.RefusalList.{Answer, refused, accepted, number}
 use Rattle.reader.specs.declared.Reading.{Reading}
 
--- a text in an array of 372 bytes
-abbrev pub textArray : List ℕ → List ℕ
-textArray t = t ++ replicate (372 - length t) 0
+-- ---- the values of the enums
+
+-- the kinds are numbered as the sections of the job
+abbrev pub kindNumber : Kind → ℕ
+kindNumber Gray = 1
+kindNumber Rgb = 2
+kindNumber Xyb = 3
 
 -- the curve's number in the job: `JxlTransferFunction` order
 abbrev pub nameNumber : CurveName → ℕ
@@ -36,6 +44,13 @@ abbrev pub cicpNumber : Cicp → ℕ
 cicpNumber Absent = 0
 cicpNumber (Primaries v) = v
 
+-- ---- the answer
+
+-- a text in an array
+abbrev pub textArray : List ℕ → List ℕ
+textArray t = t ++ replicate (maxLetters - length t) 0
+
+-- no plan
 abbrev pub refusedWith : ℕ → Reading
 refusedWith n =
     record {
@@ -50,57 +65,27 @@ refusedWith n =
       chad = replicate 9 (pos 0);
       columns = replicate 9 (pos 0);
       letters = 0;
-      text = replicate 372 0;
+      text = replicate maxLetters 0;
     }
 
--- the kinds are numbered as the sections of the job: 1 gray, 2 RGB, 3 XYB
-abbrev pub contentReading : ℕ → Content → Reading
-contentReading i (gray t c x z) =
+-- a plan: its numbers, and its text in an array, of so many letters
+abbrev pub acceptedWith : Numbers → ℕ → List ℕ → Reading
+acceptedWith p n text =
     record {
       refusal = 0;
-      kind = 1;
-      intent = i;
-      curve = curveNumber c;
-      gamma = gammaNumber c;
-      cicp = 0;
-      «white_x» = x;
-      «white_z» = z;
-      chad = replicate 9 (pos 0);
-      columns = replicate 9 (pos 0);
-      letters = length t;
-      text = textArray t;
-    }
-contentReading i (rgb t c m k v) =
-    record {
-      refusal = 0;
-      kind = 2;
-      intent = i;
-      curve = curveNumber c;
-      gamma = gammaNumber c;
-      cicp = cicpNumber v;
-      «white_x» = pos 0;
-      «white_z» = pos 0;
-      chad = m;
-      columns = k;
-      letters = length t;
-      text = textArray t;
-    }
-contentReading i xyb =
-    record {
-      refusal = 0;
-      kind = 3;
-      intent = i;
-      curve = 0;
-      gamma = pos 0;
-      cicp = 0;
-      «white_x» = pos 0;
-      «white_z» = pos 0;
-      chad = replicate 9 (pos 0);
-      columns = replicate 9 (pos 0);
-      letters = 0;
-      text = replicate 372 0;
+      kind = kindNumber (p .kind);
+      intent = p .intent;
+      curve = curveNumber (p .curve);
+      gamma = gammaNumber (p .curve);
+      cicp = cicpNumber (p .cicp);
+      «white_x» = p .«white_x»;
+      «white_z» = p .«white_z»;
+      chad = p .chad;
+      columns = p .columns;
+      letters = n;
+      text = text;
     }
 
 abbrev pub reading : Answer → Reading
 reading (refused c) = refusedWith (number c)
-reading (accepted p) = contentReading (p .intent) (p .content)
+reading (accepted p) = acceptedWith (numbersOf p) (length (textOf p)) (textArray (textOf p))

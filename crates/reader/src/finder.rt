@@ -1,7 +1,7 @@
 // The finder: the part of a file that holds an element.
 ghost use mathlib.Core.Path.{_≡_};
 ghost use Prim.Native.Nat.{_+_};
-ghost use Rattle.reading.specs.Finder as Finder;
+ghost use Rattle.reader_spec.specs.Finder as Finder;
 
 // The caller's own part of the file that holds the element of a signature, without padding. It is empty where the reader refuses the file, and
 // where the tag is absent.
@@ -13,13 +13,13 @@ pub fn find(file: &[u8], signature: [u8; 4]) -> &[u8]
     if answer.refusal != 0 {
         return &file[0..0];
     }
-    let tags = fields::word_at(file, 128) as usize;
+    let tags = fields::tag_count(file) as usize;
     let mut i = 0usize;
     while i < tags {
-        let at = 132 + 12 * i;
-        if fields::same_bytes(&file[at..at + 4], &signature) {
-            let offset = fields::word_at(file, at + 4) as usize;
-            let size = fields::word_at(file, at + 8) as usize;
+        let at = fields::FIRST_LINE + tag_table::ENTRY_SIZE * i;
+        if buffer::same_bytes(&file[at..at + fields::LINE_OFFSET], &signature) {
+            let offset = numbers::read_u32_be(file, at + fields::LINE_OFFSET) as usize;
+            let size = numbers::read_u32_be(file, at + fields::LINE_ELEMENT_SIZE) as usize;
             return &file[offset..offset + size];
         }
         i += 1;

@@ -11,7 +11,7 @@ use mir.Syntax.{w32}
 use mir.ValLaws.{toZ-ofZ}
 use borrow.Author.Needs.{sfits-of, needs}
 use borrow.Author.Tests.{not-true, not-false}
-use Rattle.reading.specs.Tests.{inRange, allInRange}
+use Rattle.reader_spec.specs.Tests.{inRange, allInRange}
 use Rattle.fields.proofs.all_in_range.Statement.{statement}
 use Rattle.fields.proofs.all_in_range.Tie as tie
 

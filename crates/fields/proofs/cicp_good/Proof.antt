@@ -5,7 +5,7 @@ use mathlib.Core.Bool.{false, _||_}
 use lib.Dec.{eqb}
 use borrow.Author.Needs.{needs}
 use borrow.Author.Tests.{ne-eqb}
-use Rattle.reading.specs.Tests.{cicpGood}
+use Rattle.reader_spec.specs.Tests.{cicpGood}
 use Rattle.fields.proofs.cicp_good.Statement.{statement}
 use Rattle.fields.proofs.cicp_good.Tie as tie
 

@@ -3,7 +3,7 @@ use mathlib.Core.Path.{sym, ap, _∙_}
 use mir.Syntax.{w32}
 use mir.ValLaws.{toZ-ofZ}
 use borrow.Author.Needs.{sfits-of, needs}
-use Rattle.reading.specs.Tests.{inRange, curveInRange}
+use Rattle.reader_spec.specs.Tests.{inRange, curveInRange}
 use Rattle.fields.proofs.curve_in_range.Statement.{statement}
 use Rattle.fields.proofs.curve_in_range.Tie as tie
 

@@ -1,6 +1,6 @@
 -- Each answer is the choice of `nameBy`, by what the comparisons showed.
 use borrow.Author.Tests.{eq-eqb, ne-eqb}
-use Rattle.reading.specs.Recover.{nameBy}
+use Rattle.reader_spec.specs.PlanIn.{nameBy}
 use Rattle.fields.proofs.name_by.Statement.{statement}
 use Rattle.fields.proofs.name_by.Tie as tie
 

@@ -8,7 +8,7 @@ use lib.Seq.{getD-drop}
 use borrow.Author.Needs.{needs}
 use Rattle.buffer.specs.Buffer.{put}
 use Rattle.buffer.specs.BufferLaws.{put-nothing}
-use Rattle.reading.specs.Recover.{lowBytes}
+use Rattle.reader_spec.specs.PlanIn.{lowBytes}
 use Rattle.fields.proofs.Letters.{one-more}
 use Rattle.fields.proofs.read_letters.Statement.{statement}
 use Rattle.fields.proofs.read_letters.Tie as tie

@@ -1,33 +1,28 @@
 -- By the case of the kind.
+use Rattle.reader_spec.specs.PlanIn.{shapeFrom}
+use Rattle.reader_spec.specs.LinesLaws.{length-entries}
 use borrow.Author.Needs.{needs}
-use Rattle.reading.specs.Table.{tagsOf}
-use Rattle.reading.specs.Recover.{shapeFrom}
-use Rattle.reading.specs.SizesLaws.{length-entries}
 use Rattle.fields.proofs.shape_in.Statement.{statement}
 use Rattle.fields.proofs.shape_in.Tie as tie
 
 returns : tie.Need-returns
 unfolding shapeFrom
 returns c =
-    let letters = c .before in
-    let first = letters .before in
-    rw (first .before .enum-told .given .1, letters .letters-for .ensures, first .size-at .ensures, c .size-at2 .ensures)
+    rw (c .before .before .before .enum-told .given .1, c .before .letters-for .ensures, c .before .before .size-at .ensures, c .size-at2 .ensures)
 
 returns-2 : tie.Need-returns-2
-unfolding shapeFrom tagsOf
+unfolding shapeFrom
 returns-2 c =
-    let line = c .before in
-    let letters = line .before in
-    let first = letters .before in
-    let tags = first .before in
+    let letters = c .before .before in
+    let tags = letters .before .before in
     rw (
       tags .before .enum-told2 .given .1,
       length-entries (tags .before .before .before .before .args .file .now),
       letters .letters-for2 .ensures,
-      first .size-at3 .ensures,
+      letters .before .size-at3 .ensures,
       c .size-at4 .ensures,
-      line .curve-line .ensures .0,
-      tags .word-at .ensures,
+      c .before .red-line .ensures .0,
+      tags .tag-count .ensures,
     )
 
 returns-3 : tie.Need-returns-3
@@ -47,6 +42,7 @@ shape-in-spec =
     (λ c κs. search needs)
     (λ c κs. search needs)
     (λ c κs. search needs)
+    (λ c. search needs)
     (λ c κs. search needs)
     (λ c. search needs)
     returns

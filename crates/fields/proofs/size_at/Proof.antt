@@ -1,25 +1,22 @@
--- The line is there exactly if the table has more tags: the laws `size-at` and `size-past`.
-use mathlib.Core.Path.{_≡_, sym, _∙_}
+-- The line is there exactly if the table has more tags.
+use mathlib.Core.Path.{sym, ap, _∙_}
 use native.Mathlib.Omega.{arith}
+use Rattle.profile.specs.Elements.{Entry}
+use Rattle.reader_spec.specs.LinesLaws.{line-in, line-past}
 use borrow.Author.Needs.{needs}
-use Rattle.reading.specs.Table.{tagsOf}
-use Rattle.reading.specs.SizesLaws.{size-at, size-past}
 use Rattle.fields.proofs.size_at.Statement.{statement}
 use Rattle.fields.proofs.size_at.Tie as tie
-
-tags : (c : tie.After-word-at) → c .word-at .result ≡ tagsOf (c .before .before .args .file .now)
-unfolding tagsOf
-tags c = c .word-at .ensures
 
 returns : tie.Need-returns
 returns c =
     let start = c .before .before .before .args in
-    sym (size-past (start .file .now) (start .line) (omega (arith, tags (c .before))))
+    sym (ap (λ (e : Entry). e .size) (line-past (start .file .now) (start .line) (omega (arith, c .before .tag-count .ensures))))
 
 returns-2 : tie.Need-returns-2
 returns-2 c =
     let start = c .before .before .before .before .args in
-    c .word-at2 .ensures ∙ sym (size-at (start .file .now) (start .line) (omega (arith, tags (c .before .before))))
+    c .read-u32-be .ensures
+    ∙ sym (ap (λ (e : Entry). e .size) (line-in (start .file .now) (start .line) (omega (arith, c .before .before .tag-count .ensures))))
 
 pub size-at-spec : {M : Type 1} → statement M
 size-at-spec =
@@ -28,6 +25,7 @@ size-at-spec =
     (λ c κs. search needs)
     (λ c. search needs)
     returns
+    (λ c. search needs)
     (λ c. search needs)
     (λ c. search needs)
     (λ c κs. search needs)

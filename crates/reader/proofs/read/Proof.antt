@@ -1,4 +1,4 @@
--- `read` meets its contract: each answer is that of the check that its test makes (`Headers`, `Tables`).
+-- Each answer is that of the check that its test makes (`Headers`, `Tables`).
 use Prim.Native.Nat.{ℕ}
 use mathlib.Core.Path.{_≡_, ap, sym, _∙_, subst}
 use mathlib.Core.List.{List}
@@ -7,15 +7,15 @@ use borrow.Author.Needs.{needs}
 use borrow.Author.Tests.{not-true, not-false}
 use Rattle.profile.specs.declared.Kind.{Kind}
 use Rattle.profile.specs.declared.Shape.{Shape}
-use Rattle.reading.specs.Table.{varyingOf, entriesOf}
-use Rattle.reading.specs.Recover.{shapeFrom, shapeIn}
-use Rattle.reading.specs.RecoverLaws.{shape-kind}
-use Rattle.reading.specs.DecideLaws.{decided-if, decided-not}
-use Rattle.reading.specs.Steps.{Headed, Tabled}
-use Rattle.reading.specs.StepsLaws.{read-21, read-22}
+use Rattle.reader_spec.specs.Table.{varyingOf, entriesOf}
+use Rattle.reader_spec.specs.PlanIn.{shapeFrom, shapeIn}
+use Rattle.reader_spec.specs.PlanInLaws.{shape-kind}
+use Rattle.reader_spec.specs.DecideLaws.{decided-if, decided-not}
+use Rattle.reader_spec.specs.Steps.{Headed, Tabled}
+use Rattle.reader_spec.specs.StepsLaws.{read-21, read-22}
 use Rattle.reader.specs.Reading.{reading}
-use Rattle.reader.proofs.Headers.{Tested, headed, answer-23, answer-24, answer-table}
-use Rattle.reader.proofs.Tables.{refuse-25, go-on}
+use Rattle.reader.proofs.HeaderTests.{Tested, headed, answer-23, answer-24, answer-table}
+use Rattle.reader.proofs.HeaderTests.{refuse-25, go-on}
 use Rattle.reader.proofs.read.Statement.{statement}
 use Rattle.reader.proofs.read.Tie as tie
 
@@ -26,23 +26,23 @@ returns-2 : tie.Need-returns-2
 unfolding varyingOf
 returns-2 c =
     let word = c .before .before in
-    c .refused2 .ensures ∙ sym (ap reading (read-22 _ (word .before .if1 .left) (λ e. c .before .if2 .taken (word .word-at .ensures ∙ e))))
+    c .refused2 .ensures ∙ sym (ap reading (read-22 _ (word .before .if1 .left) (λ e. c .before .if2 .taken (word .read-u32-be .ensures ∙ e))))
 
-module _ (c : tie.After-kind-of) where
+module _ (c : tie.After-read-u32-be2) where
   abbrev file : List ℕ
   file = c .before .before .before .before .before .before .args .file .now
 
   abbrev kind : Kind
-  kind = c .kind-of .result
+  kind = c .before .kind-of .result
 
   abbrev intent : ℕ
-  intent = c .before .word-at2 .result
+  intent = c .read-u32-be2 .result
 
 header-is-requires : tie.Need-header-is-requires
 unfolding varyingOf
 header-is-requires c κs =
     let sized = c .before .before in
-    (sized .before .before .if1 .left, sym (sized .before .word-at .ensures) ∙ sized .if2 .left, c .before .word-at2 .ensures)
+    (sized .before .before .if1 .left, sym (sized .before .read-u32-be .ensures) ∙ sized .if2 .left, c .read-u32-be2 .ensures)
 
 tested : (c : tie.After-header-is) → Tested (kind (c .before)) (file (c .before)) (c .header-is .result) (intent (c .before))
 unfolding varyingOf
@@ -50,9 +50,9 @@ tested c =
     let sized = c .before .before .before in
     record {
       sized =
-          record { long = sized .before .before .if1 .left; size = sym (sized .before .word-at .ensures) ∙ sized .if2 .left; kind-is = sym (c .before .kind-of .ensures) };
+          record { long = sized .before .before .if1 .left; size = sym (sized .before .read-u32-be .ensures) ∙ sized .if2 .left; kind-is = sym (c .before .before .kind-of .ensures) };
       test = c .header-is .ensures;
-      intent = c .before .before .word-at2 .ensures;
+      intent = c .before .read-u32-be2 .ensures;
     }
 
 returns-3 : tie.Need-returns-3
@@ -64,7 +64,7 @@ returns-4 c =
     answer-24 (tested (told .before .before)) (told .before .if3 .left) (decided-not _ (sym (told .intent-is .ensures) ∙ not-true _ (c .before .if4 .taken))) (c .refused4 .ensures)
 
 module _ (c : tie.Else4) where
-  abbrev known : tie.After-kind-of
+  abbrev known : tie.After-read-u32-be2
   known = c .before .before .before .before
 
   passed : Headed (kind known) (file known)
@@ -74,10 +74,7 @@ shape-is : (c : tie.After-shape-in) → shapeIn (file (known (c .before))) ≡ c
 unfolding shapeIn
 shape-is c =
     let k = known (c .before) in
-    sym (c .shape-in .ensures ∙ ap (λ (x : Kind). shapeFrom x (entriesOf (file k))) (k .kind-of .ensures))
-
-table-is-requires : tie.Need-table-is-requires
-table-is-requires c κs = passed (c .before) .sized .long
+    sym (c .shape-in .ensures ∙ ap (λ (x : Kind). shapeFrom x (entriesOf (file k))) (k .before .kind-of .ensures))
 
 returns-5 : tie.Need-returns-5
 returns-5 c =
@@ -96,12 +93,12 @@ tabled c =
       table-is = decided-if _ (sym (c .before .table-is .ensures) ∙ not-false _ (c .if5 .left));
     }
 
-body-requires : tie.Need-body-requires
+read-elements-requires : tie.Need-read-elements-requires
 unfolding varyingOf
-body-requires c κs = (tabled c, known (c .before .before .before) .before .word-at2 .ensures)
+read-elements-requires c κs = (tabled c, known (c .before .before .before) .read-u32-be2 .ensures)
 
 returns-6 : tie.Need-returns-6
-returns-6 c = answer-table (passed (c .before .before .before .before)) (go-on _ (tabled (c .before)) (c .body .ensures))
+returns-6 c = answer-table (passed (c .before .before .before .before)) (go-on _ (tabled (c .before)) (c .read-elements .ensures))
 
 pub read-spec : {M : Type 1} → statement M
 read-spec =
@@ -122,8 +119,8 @@ read-spec =
     (λ c κs. search needs)
     returns-4
     (λ c κs. search needs)
-    table-is-requires
+    (λ c κs. search needs)
     (λ c κs. search needs)
     returns-5
-    body-requires
+    read-elements-requires
     returns-6)

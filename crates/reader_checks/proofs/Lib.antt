@@ -1,0 +1,3 @@
+pub mod Headers
+pub mod Plans
+pub mod Tables

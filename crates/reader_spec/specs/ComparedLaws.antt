@@ -1,0 +1,87 @@
+-- What the reader answers to a file that is compared with the layout of the one plan that it can have. Assumes nothing.
+use Prim.Native.Nat.{ℕ}
+use mathlib.Core.Path.{_≡_, refl, ap, sym, _∙_}
+use mathlib.Core.Bool.{true, false}
+use mathlib.Core.List.{List}
+use lib.ListN.{take, drop}
+use mir.Syntax.{w32}
+use mir.Val.{SFits}
+use Rattle.buffer.specs.BoolLaws.{true≢false}
+use Rattle.buffer.specs.Bytes.{same}
+use Rattle.buffer.specs.BytesLaws.{same-if, same-of}
+use Rattle.profile.specs.Elements.{start}
+use Rattle.profile.specs.Numbers.{planOf, numbersOf}
+use Rattle.profile.specs.Layout.{slots, profileId, layout}
+use Rattle.profile.specs.Shape.{shape, slotsOf}
+use Rattle.profile.specs.declared.Numbers.{Numbers}
+use Rattle.reader_spec.specs.Table.{varyingOf}
+use Rattle.reader_spec.specs.PlanIn.{planIn}
+use Rattle.reader_spec.specs.FitsLaws.{Bytes}
+use Rattle.reader_spec.specs.RefusalList.{number, refusalNumber, c26, c27, c28}
+use Rattle.reader_spec.specs.Decide.{BodyIs}
+use Rattle.reader_spec.specs.Read.{fromId, fromRange, fromBody}
+use Rattle.reader_spec.specs.Steps.{Candidate}
+use Rattle.reader_spec.specs.StepsLaws.{body-26, body-range, range-27, range-id, id-28, id-accepted}
+use Rattle.reader_spec.specs.Tests.{lettersAndCicpGood, numbersInRange}
+use Rattle.reader_spec.specs.TestsLaws.{in-range-content, content-in-range}
+use Rattle.reader_spec.specs.CandidateLaws.{plan-is, shape-is, wrong-letters, content, same-slots, body-if, body-of, id-laid}
+
+module _ (f : List ℕ) (p : Numbers) (t : List ℕ) (c : Candidate f p t) where
+  -- a letter above 127 or another `cicp` value
+  pub by-letters : lettersAndCicpGood p t ≡ false → number c26 ≡ refusalNumber (fromBody f)
+  by-letters e = sym (ap refusalNumber (body-26 (planIn f) f refl (wrong-letters f p t c e)))
+
+  module _ (bytes : Bytes f) (good : lettersAndCicpGood p t ≡ true) where
+    starts : start (slotsOf (shape (planOf p t))) ≡ start (slots (planIn f))
+    starts =
+        ap (λ q. start (slotsOf (shape q))) (plan-is f p t c)
+        ∙ ap (λ s. start (slotsOf s)) (shape-is f p t c) ∙ ap start (sym (same-slots f p t c bytes good))
+
+    abbrev Same : Type 0
+    Same =
+        let at = start (slotsOf (shape (planOf p t))) in
+        drop at f ≡ drop at (layout (planOf p t))
+
+    same-is : Same → BodyIs (planIn f) f
+    same-is e =
+        let laid : drop (start (slots (planIn f))) f ≡ drop (start (slots (planIn f))) (layout (planIn f)) = rw (starts, plan-is f p t c) at e in
+        body-if f p t c bytes good laid
+
+    is-same : BodyIs (planIn f) f → Same
+    is-same b = rw (starts, plan-is f p t c) (body-of f p t c bytes good b)
+
+    -- another byte in elements or padding
+    pub by-elements : let at = start (slotsOf (shape (planOf p t))) in
+        same (drop at f) (drop at (layout (planOf p t))) ≡ false → number c26 ≡ refusalNumber (fromBody f)
+    by-elements e = sym (ap refusalNumber (body-26 (planIn f) f refl (λ b. true≢false (sym (same-of (is-same b)) ∙ e))))
+
+    module _ (elements : let at = start (slotsOf (shape (planOf p t))) in same (drop at f) (drop at (layout (planOf p t))) ≡ true) where
+      body : BodyIs (planIn f) f
+      body = same-is (same-if _ _ elements)
+
+      to-range : fromBody f ≡ fromRange f
+      to-range = body-range (planIn f) f refl body
+
+      -- a number outside its range
+      pub by-range : numbersInRange p ≡ false → number c27 ≡ refusalNumber (fromBody f)
+      by-range e =
+          sym (ap refusalNumber (to-range ∙ range-27 (planIn f) f refl (λ h.
+          true≢false (sym (content-in-range (planIn f .intent) (planIn f .content) h) ∙ sym (ap numbersInRange (c .numbers)) ∙ e))))
+
+      module _ (in-range : numbersInRange p ≡ true) where
+        to-id : fromBody f ≡ fromId f
+        to-id =
+            let h : numbersInRange (numbersOf (planIn f)) ≡ true = rw (c .numbers) at in-range in
+            to-range ∙ range-id (planIn f) f refl (in-range-content (SFits w32) (planIn f .intent) (planIn f .content) (content f p t c bytes good) h)
+
+        laid : take 16 (drop 84 (layout (planOf p t))) ≡ profileId f
+        laid = ap (λ q. take 16 (drop 84 (layout q))) (plan-is f p t c) ∙ id-laid f p t c bytes good body
+
+        -- another id
+        pub by-id : same (take 16 (drop 84 f)) (take 16 (drop 84 (layout (planOf p t)))) ≡ false → number c28 ≡ refusalNumber (fromBody f)
+        unfolding varyingOf
+        by-id e = sym (ap refusalNumber (to-id ∙ id-28 f (λ h. true≢false (sym (same-of (h ∙ sym laid)) ∙ e))))
+
+        pub by-none : same (take 16 (drop 84 f)) (take 16 (drop 84 (layout (planOf p t)))) ≡ true → 0 ≡ refusalNumber (fromBody f)
+        unfolding varyingOf
+        by-none e = sym (ap refusalNumber (to-id ∙ id-accepted (planIn f) f refl (same-if _ _ e ∙ laid)))

@@ -1,0 +1,231 @@
+-- What reading the regions of a plan's file gives, under any id; and that no two plans share a file. Assumes nothing.
+use Prim.Native.Nat.{ℕ, _+_, _^_, _<_}
+use mathlib.Core.Path.{_≡_, refl, ap, sym, _∙_}
+use mathlib.Core.List.{List, [], _∷_, _++_, append-assoc}
+use native.Mathlib.Omega.{arith}
+use lib.IntN.{ℤ, pos, negsuc}
+use lib.ListN.{length, take, drop, length-append}
+use lib.Seq.{take-at, drop-drop}
+use mir.Syntax.{w32}
+use mir.Val.{SFits}
+use Rattle.numbers.specs.Words.{be32, word32}
+use Rattle.numbers.specs.WordsLaws.{length-be16, length-be32, word32-be32}
+use Rattle.buffer.specs.Bytes.{zeros, same}
+use Rattle.buffer.specs.All.{All, none, more}
+use Rattle.md5.specs.Md5.{md5}
+use Rattle.profile.specs.Elements.{start, tagCount, table, entries, body, file, fileLength}
+use Rattle.profile.specs.ElementsLaws.{Fours}
+use Rattle.profile.specs.Plan.{Plan, Content, gray, rgb, xyb, kind, GoodCurve, GoodContent, GoodIntent, Good, InRange, Valid, Wide}
+use Rattle.profile.specs.declared.Kind.{Kind}
+use Rattle.profile.specs.declared.Kind.the-variants.{Gray, Rgb, Xyb}
+use Rattle.profile.specs.PlanLaws.{good-nines, slots-shape}
+use Rattle.profile.specs.Shape.{shape}
+use Rattle.profile.specs.declared.Shape.{Shape}
+use Rattle.profile.specs.Signatures as Sig
+use Rattle.profile.specs.TagTypes.{join, s15Fixed16s}
+use Rattle.profile.specs.TagTypesLaws.{length-s15Fixed16s}
+use Rattle.profile.specs.Layout.{D50, Varying, class, space, front, header, elements, slots, withId, profileId, layout}
+use Rattle.profile.specs.LayoutLaws.{length-header, plan-fours, length-id, length-layout, layout-bounds, blanked-withId}
+use Rattle.profile.specs.declared.Curve.{Curve}
+use Rattle.profile.specs.declared.Curve.the-variants.{Named, Gamma}
+use Rattle.reader_spec.specs.JoinLaws.{from-part}
+use Rattle.reader_spec.specs.Table.{varyingOf, tagsOf, tableOf, bodyOf, entriesOf}
+use Rattle.reader_spec.specs.TableLaws.{tags-file, table-file, drop-start, body-file, entries-file, tails-file}
+use Rattle.reader_spec.specs.PlanIn.{kindFrom, shapeIn, contentFrom, elementIn, planIn}
+use Rattle.reader_spec.specs.PlanInLaws.{elementOf, content-back, shape-back}
+
+-- ---- the header
+
+-- numbers that their four bytes hold, and sixteen bytes of id
+pub record Fits (v : Varying) : Type 0 where
+  pub size : v .size < 2 ^ 32
+  pub intent : v .intent < 2 ^ 32
+  pub id : length (v .id) ≡ 16
+
+length-class : (k : Kind) → length (class k) ≡ 4
+length-class Gray = refl
+length-class Rgb = refl
+length-class Xyb = refl
+
+length-space : (k : Kind) → length (space k) ≡ 4
+length-space Gray = refl
+length-space Rgb = refl
+length-space Xyb = refl
+
+-- its parts from the intent on
+header-intent : (k : Kind) (v : Varying) (r : List ℕ) → v .intent < 2 ^ 32 → word32 (drop 64 (header k v ++ r)) ≡ v .intent
+unfolding header join
+header-intent k v r h =
+    let before = be32 (v .size) ∷ front k ∷ zeros 4 ∷ zeros 16 ∷ [] in
+    let after = be32 (v .intent) ∷ s15Fixed16s D50 ∷ Sig.jxl ∷ v .id ∷ zeros 28 ∷ [] in
+    rw (from-part before after r 64 (simp (length-append, length-be16, length-be32, length-class, length-space)), append-assoc) (word32-be32 (v .intent) _ h)
+
+-- and from the id on
+header-id : (k : Kind) (v : Varying) (r : List ℕ) → length (v .id) ≡ 16 → take 16 (drop 84 (header k v ++ r)) ≡ v .id
+unfolding header join
+header-id k v r h =
+    let before = be32 (v .size) ∷ front k ∷ zeros 4 ∷ zeros 16 ∷ be32 (v .intent) ∷ s15Fixed16s D50 ∷ Sig.jxl ∷ [] in
+    let after = v .id ∷ zeros 28 ∷ [] in
+    rw (from-part before after r 84 (simp (length-append, length-be16, length-be32, length-class, length-space, length-s15Fixed16s)), append-assoc) (take-at (v .id) _ 16 h)
+
+header-size : (k : Kind) (v : Varying) (r : List ℕ) → v .size < 2 ^ 32 → word32 (header k v ++ r) ≡ v .size
+unfolding header join
+header-size k v r h = rw (append-assoc (be32 (v .size))) (word32-be32 (v .size) _ h)
+
+header-varying : (k : Kind) (v : Varying) (r : List ℕ) → Fits v → varyingOf (header k v ++ r) ≡ v
+unfolding varyingOf
+header-varying k v r h = λ i. record { size = header-size k v r (h .size) i; intent = header-intent k v r (h .intent) i; id = header-id k v r (h .id) i }
+
+-- class and space stand at bytes 8 and 12 of what follows the size; once the kind is known the front computes as far as these
+class-and-space : (k : Kind) (v : Varying) (r : List ℕ) → (take 4 (drop 12 (header k v ++ r)) ≡ class k) × (take 4 (drop 16 (header k v ++ r)) ≡ space k)
+unfolding header join
+class-and-space k v r =
+    let after = front k ∷ zeros 4 ∷ zeros 16 ∷ be32 (v .intent) ∷ s15Fixed16s D50 ∷ Sig.jxl ∷ v .id ∷ zeros 28 ∷ [] in
+    let past : drop 4 (header k v ++ r) ≡ join after ++ r = from-part (be32 (v .size) ∷ []) after r 4 (simp (length-append, length-be32)) in (
+      ap (take 4) (sym (drop-drop 8 4 (header k v ++ r)) ∙ ap (drop 8) past) ∙ in-front k (drop 1 after) .0,
+      ap (take 4) (sym (drop-drop 12 4 (header k v ++ r)) ∙ ap (drop 12) past) ∙ in-front k (drop 1 after) .1,
+    )
+  where
+    in-front : (k : Kind) (ps : List (List ℕ)) → (take 4 (drop 8 (join (front k ∷ ps) ++ r)) ≡ class k) × (take 4 (drop 12 (join (front k ∷ ps) ++ r)) ≡ space k)
+    in-front Gray ps = unfold join in (refl, refl)
+    in-front Rgb ps = unfold join in (refl, refl)
+    in-front Xyb ps = unfold join in (refl, refl)
+
+pub header-kind : (k : Kind) (v : Varying) (r : List ℕ) → kindFrom (header k v ++ r) ≡ k
+unfolding kindFrom same
+header-kind Gray v r = let h = class-and-space Gray v r in rw (h .0, h .1)
+header-kind Rgb v r = let h = class-and-space Rgb v r in rw (h .0, h .1)
+header-kind Xyb v r = let h = class-and-space Xyb v r in rw (h .0, h .1)
+
+-- ---- a plan's file, under any id
+
+-- what its header says, in a file of n bytes
+abbrev pub varying : ℕ → List ℕ → Plan → Varying
+varying n id p = record { size = n; intent = p .intent; id = id }
+
+intent-small : (k : Kind) (i : ℕ) → GoodIntent k i → i < 2 ^ 32
+intent-small Gray i h = omega arith
+intent-small Rgb i h = omega arith
+intent-small Xyb i h = omega arith
+
+module _ (N : ℤ → Type 0) (p : Plan) (g : Good N p) where
+  pub fours : Fours (slots p)
+  fours = plan-fours p (good-nines N (p .content) (g .content))
+
+  -- its length, by the elements themselves
+  pub length-slots : length (layout p) ≡ fileLength (slots p)
+  length-slots =
+      let nines = good-nines N (p .content) (g .content) in
+      length-layout p nines ∙ ap fileLength (sym (slots-shape p nines))
+
+  pub small : fileLength (slots p) < 2 ^ 32
+  small = omega (arith, layout-bounds N p g, length-slots)
+
+module _ (N : ℤ → Type 0) (p : Plan) (g : Good N p) (id : List ℕ) (sixteen : length id ≡ 16) where
+  says : Fits (varying (fileLength (slots p)) id p)
+  says = record { size = small N p g; intent = intent-small (kind p) (p .intent) (g .intent); id = sixteen }
+
+  pub header-128 : length (header (kind p) (varying (fileLength (slots p)) id p)) ≡ 128
+  header-128 = length-header (kind p) _ sixteen
+
+  pub tags-withId : tagsOf (withId id p) ≡ tagCount (slots p)
+  unfolding withId
+  tags-withId = tags-file _ (elements p) header-128 (fours N p g) (small N p g)
+
+  pub table-withId : tableOf (withId id p) ≡ table (slots p)
+  unfolding withId
+  table-withId = table-file _ (elements p) header-128 (fours N p g) (small N p g)
+
+  pub entries-withId : entriesOf (withId id p) ≡ entries (start (slots p)) (slots p)
+  unfolding withId
+  entries-withId = entries-file _ (elements p) header-128 (fours N p g) (small N p g)
+
+  pub drop-withId : drop (start (slots p)) (withId id p) ≡ body (elements p)
+  unfolding withId
+  drop-withId = drop-start _ (elements p) header-128 (fours N p g) (small N p g)
+
+  pub body-withId : bodyOf (withId id p) ≡ body (elements p)
+  unfolding withId
+  body-withId = body-file _ (elements p) header-128 (fours N p g) (small N p g)
+
+  element-withId : (i : ℕ) → elementIn (withId id p) i ≡ elementOf (elements p) (withId id p) i
+  unfolding withId
+  element-withId = tails-file _ (elements p) header-128 (fours N p g) (small N p g)
+
+  pub varying-withId : varyingOf (withId id p) ≡ varying (fileLength (slots p)) id p
+  unfolding withId file
+  varying-withId = header-varying (kind p) _ _ says
+
+  kind-withId : kindFrom (withId id p) ≡ kind p
+  unfolding withId file
+  kind-withId = header-kind (kind p) _ _
+
+  shape-withId : shapeIn (withId id p) ≡ shape p
+  unfolding shapeIn
+  shape-withId =
+      rw (kind-withId, entries-withId, slots-shape p (good-nines N (p .content) (g .content))) (shape-back _ (p .content))
+
+-- ---- the way back
+
+pub plan-in-withId : (p : Plan) → Wide p → (id : List ℕ) → length id ≡ 16 → planIn (withId id p) ≡ p
+unfolding planIn elements
+plan-in-withId p g id h =
+    let s : Shape = shapeIn (withId id p) in
+    let c : contentFrom (s .kind) s (elementIn (withId id p)) ≡ p .content =
+    (λ j. contentFrom (shape-withId (SFits w32) p g id h j .kind) (shape-withId (SFits w32) p g id h j) (λ i. element-withId (SFits w32) p g id h i j))
+    ∙ content-back (p .intent) (p .content) (withId id p) (g .content)
+    in
+    λ j. record { intent = varying-withId (SFits w32) p g id h j .intent; content = c j }
+
+plan-in-layout : (p : Plan) → Wide p → planIn (layout p) ≡ p
+unfolding layout
+plan-in-layout p g = plan-in-withId p g _ (length-id _)
+
+pub layout-injective : (p q : Plan) → Wide p → Wide q → layout p ≡ layout q → p ≡ q
+layout-injective p q g h e = sym (plan-in-layout p g) ∙ ap planIn e ∙ plan-in-layout q h
+
+-- the id and the size in a plan's file are those of that file
+pub id-layout : (p : Plan) → Wide p → varyingOf (layout p) .id ≡ profileId (layout p)
+unfolding layout profileId
+id-layout p g =
+    ap (λ v. v .id) (varying-withId (SFits w32) p g _ (length-id _))
+    ∙ ap md5 (blanked-withId p (zeros 16) refl ∙ sym (blanked-withId p _ (length-id _)))
+
+pub size-layout : (p : Plan) → Wide p → varyingOf (layout p) .size ≡ length (layout p)
+size-layout p g = size ∙ sym (length-slots (SFits w32) p g)
+  where
+    size : varyingOf (layout p) .size ≡ fileLength (slots p)
+    size = unfold layout in ap (λ v. v .size) (varying-withId (SFits w32) p g _ (length-id _))
+
+-- ---- a valid plan's numbers are signed 32-bit numbers
+
+in-range-fits : (z : ℤ) → InRange z → SFits w32 z
+in-range-fits (pos n) h = record { sfits = omega arith }
+in-range-fits (negsuc n) h = record { sfits = omega arith }
+
+All-weaken : {A : Type 0} {P Q : A → Type 0} {l : List A} → ((a : A) → P a → Q a) → All P l → All Q l
+All-weaken f none = none
+All-weaken f (more {a = a} h hs) = more (f a h) (All-weaken f hs)
+
+module _ (M N : ℤ → Type 0) (f : (z : ℤ) → M z → N z) where
+  curve-weaken : (c : Curve) → GoodCurve M c → GoodCurve N c
+  curve-weaken (Named n) h = h
+  curve-weaken (Gamma g) h = f g h
+
+  content-weaken : (c : Content) → GoodContent M c → GoodContent N c
+  content-weaken (gray g) h =
+      record { text = h .text; curve = curve-weaken (g .curve) (h .curve); white-x = f (g .white-x) (h .white-x); white-z = f (g .white-z) (h .white-z) }
+  content-weaken (rgb g) h =
+      record {
+        text = h .text;
+        curve = curve-weaken (g .curve) (h .curve);
+        chad-nine = h .chad-nine;
+        chad = All-weaken f (h .chad);
+        columns-nine = h .columns-nine;
+        columns = All-weaken f (h .columns);
+        cicp = h .cicp;
+      }
+  content-weaken xyb h = h
+
+pub valid-wide : (p : Plan) → Valid p → Wide p
+valid-wide p v = record { intent = v .intent; content = content-weaken InRange (SFits w32) in-range-fits (p .content) (v .content) }

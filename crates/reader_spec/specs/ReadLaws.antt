@@ -1,0 +1,157 @@
+-- Each test of `read` is its check of the refusal list. Assumes nothing.
+use Prim.Native.Nat.{ℕ}
+use mathlib.Core.Path.{_≡_, refl, ap, sym, _∙_, subst}
+use mathlib.Core.List.{List, [], _∷_, _++_}
+use native.Mathlib.Decide.{decLe, ℕ-discrete}
+use lib.ListN.{length, drop}
+use Rattle.profile.specs.Elements.{start, table, entries, fileLength}
+use Rattle.profile.specs.Plan.{Plan, kind, GoodContent, GoodIntent, InRange, Valid}
+use Rattle.profile.specs.declared.Kind.{Kind}
+use Rattle.profile.specs.PlanLaws.{good-nines, good-shape, slots-shape}
+use Rattle.profile.specs.Layout.{slots, profileId, layout}
+use Rattle.profile.specs.Shape.{shape}
+use Rattle.profile.specs.declared.Shape.{Shape}
+use Rattle.reader_spec.specs.Table.{varyingOf, bodyOf, entriesOf}
+use Rattle.reader_spec.specs.TableLaws.{entries-are}
+use Rattle.reader_spec.specs.PlanIn.{kindFrom, shapeFrom, shapeIn, elementIn, planIn}
+use Rattle.reader_spec.specs.PlanInLaws.{content-kind, shape-back, shape-kind}
+use Rattle.reader_spec.specs.FileLaws.{header-kind, fours, small, valid-wide}
+use Rattle.reader_spec.specs.ShapesLaws.{plain, plain-valid, plain-kind, plain-slots}
+use Rattle.reader_spec.specs.RefusalList
+use Rattle.reader_spec.specs.RefusalListLaws.{after-header, regions, has-plan-in, has-layout}
+use Rattle.reader_spec.specs.Decide as Decide
+use Rattle.reader_spec.specs.Decide.{TableIs, BodyIs}
+use Rattle.reader_spec.specs.Read.{check, fromId, fromRange, fromBody, fromTable, read}
+
+-- ---- what is left to answer where the checks before cs are passed
+
+data From (f : List ℕ) : List RefusalList.Check → RefusalList.Answer → Type 0 where
+  one-fails : {cs : List RefusalList.Check} {c : RefusalList.Check} → RefusalList.First f cs c → From f cs (RefusalList.refused c)
+  all-pass : {cs : List RefusalList.Check} (p : Plan) → Valid p → layout p ≡ f → From f cs (RefusalList.accepted p)
+
+onward : {f : List ℕ} {c : RefusalList.Check} {cs : List RefusalList.Check} {r : RefusalList.Answer} → RefusalList.Passed c f → From f cs r → From f (c ∷ cs) r
+onward h (one-fails s) = one-fails (RefusalList.later h s)
+onward h (all-pass p v e) = all-pass p v e
+
+-- one step, whose test is the check
+step : {A : Type 0} (f : List ℕ) (d : Dec A) (c : RefusalList.Check) (cs : List RefusalList.Check) (r : RefusalList.Answer)
+    → (A → RefusalList.Passed c f) → (RefusalList.Passed c f → A) → (RefusalList.Passed c f → From f cs r) → From f (c ∷ cs) (check d c r)
+unfolding check
+step f (yes a) c cs r to from k = onward (to a) (k (to a))
+step f (no h) c cs r to from k = one-fails (RefusalList.fails (λ p. h (from p)))
+
+-- ---- each test is its check
+
+module _ (f : List ℕ) (ok21 : RefusalList.Ok21 f) where
+  kind-is : (k : Kind) → RefusalList.Header k f → kindFrom f ≡ k
+  kind-is k h = ap kindFrom (after-header f ok21 k h) ∙ header-kind k (varyingOf f) (drop 128 f)
+
+  from-23 : RefusalList.Ok23 f → RefusalList.Header (kindFrom f) f
+  from-23 a = rw (kind-is (a .kind) (a .header)) (a .header)
+
+  from-24 : RefusalList.Ok24 f → GoodIntent (kindFrom f) (varyingOf f .intent)
+  from-24 a = rw (kind-is (a .kind) (a .header)) (a .intent)
+
+  kind-of-shape : shapeIn f .kind ≡ kindFrom f
+  unfolding shapeIn
+  kind-of-shape = shape-kind (kindFrom f) (entriesOf f)
+
+  to-25 : RefusalList.Header (kindFrom f) f → TableIs (shapeIn f) f → RefusalList.Ok25 f
+  unfolding shapeIn
+  to-25 h t =
+      let s : Shape = shapeFrom (kindFrom f) (entriesOf f) in
+      let k : kind (plain s) ≡ kindFrom f = plain-kind s ∙ shape-kind (kindFrom f) (entriesOf f) in
+      record {
+        plan = plain s;
+        valid = plain-valid s (t .good);
+        header = subst (λ x. RefusalList.Header x f) (sym k) h;
+        table = t .table ∙ ap table (sym (plain-slots s (t .good)));
+        length-is = t .length-is ∙ ap fileLength (sym (plain-slots s (t .good)));
+      }
+
+  shape-is : (a : RefusalList.Ok25 f) → shapeIn f ≡ shape (a .plan)
+  unfolding shapeIn
+  shape-is a =
+      let p : Plan = a .plan in
+      let here : drop 128 f ≡ table (slots p) ++ bodyOf f = regions f ok21 ∙ ap (λ x. x ++ bodyOf f) (a .table) in
+      let es : entriesOf f ≡ entries (start (slots p)) (slots p) =
+      entries-are f (slots p) (bodyOf f) here (fours InRange p (a .valid)) (small InRange p (a .valid))
+      in
+      rw (kind-is (kind p) (a .header), es, slots-shape p (good-nines InRange (p .content) (a .valid .content))) (shape-back _ (p .content))
+
+  from-25 : RefusalList.Ok25 f → TableIs (shapeIn f) f
+  from-25 a =
+      let same = slots-shape (a .plan) (good-nines InRange (a .plan .content) (a .valid .content)) in
+      rw (shape-is a)
+      (record {
+        good = good-shape InRange (a .plan .content) (a .valid .content);
+        table = a .table ∙ ap table same;
+        length-is = a .length-is ∙ ap fileLength same;
+      })
+
+  module _ (ok22 : RefusalList.Ok22 f) where
+    to-26 : RefusalList.Header (kindFrom f) f → GoodIntent (kindFrom f) (varyingOf f .intent) → BodyIs (planIn f) f → RefusalList.Ok26 f
+    unfolding planIn
+    to-26 h i b =
+        let s : Shape = shapeIn f in
+        let k : kind (planIn f) ≡ kindFrom f = content-kind (s .kind) s (elementIn f) ∙ kind-of-shape in
+        record {
+          plan = planIn f;
+          wide = record { intent = subst (λ x. GoodIntent x (varyingOf f .intent)) (sym k) i; content = b .good };
+          has = record { header = subst (λ x. RefusalList.Header x f) (sym k) h; intent = refl; table = b .table; body = b .body };
+        }
+
+    plan-is : (a : RefusalList.Ok26 f) → planIn f ≡ a .plan
+    plan-is a = has-plan-in f ok21 ok22 (a .plan) (a .wide) (a .has)
+
+    from-26 : RefusalList.Ok26 f → BodyIs (planIn f) f
+    from-26 a = rw (plan-is a) (record { good = a .wide .content; table = a .has .table; body = a .has .body })
+
+    to-27 : RefusalList.Ok26 f → GoodContent InRange (planIn f .content) → RefusalList.Ok27 f
+    to-27 a c =
+        let d : GoodContent InRange (a .plan .content) = rw (plan-is a) at c in
+        record { plan = a .plan; valid = record { intent = a .wide .intent; content = d }; has = a .has }
+
+    abbrev wide-27 : RefusalList.Ok27 f → RefusalList.Ok26 f
+    wide-27 a = record { plan = a .plan; wide = valid-wide (a .plan) (a .valid); has = a .has }
+
+    from-27 : RefusalList.Ok27 f → GoodContent InRange (planIn f .content)
+    from-27 a = rw (plan-is (wide-27 a)) (a .valid .content)
+
+    last : RefusalList.Ok27 f → RefusalList.Ok28 f → From f [] (RefusalList.accepted (planIn f))
+    last a b =
+        rw (plan-is (wide-27 a))
+        (all-pass (a .plan) (a .valid) (has-layout f ok21 ok22 (a .plan) (valid-wide (a .plan) (a .valid)) (a .has) b))
+
+    -- ---- from each check on
+
+    from-id : RefusalList.Ok27 f → From f (RefusalList.c28 ∷ []) (fromId f)
+    unfolding fromId
+    from-id a = step f (Decide.same-bytes (varyingOf f .id) (profileId f)) RefusalList.c28 [] _ (λ h. record { id = h }) (λ b. b .id) (last a)
+
+    from-range : RefusalList.Ok26 f → From f (RefusalList.c27 ∷ RefusalList.c28 ∷ []) (fromRange f)
+    unfolding fromRange
+    from-range a = step f (Decide.content InRange Decide.in-range (planIn f .content)) RefusalList.c27 _ _ (to-27 a) from-27 from-id
+
+    from-body : RefusalList.Header (kindFrom f) f → GoodIntent (kindFrom f) (varyingOf f .intent) → From f (RefusalList.c26 ∷ RefusalList.c27 ∷ RefusalList.c28 ∷ []) (fromBody f)
+    unfolding fromBody
+    from-body h i = step f (Decide.body-is (planIn f) f) RefusalList.c26 _ _ (to-26 h i) from-26 from-range
+
+    from-table : RefusalList.Header (kindFrom f) f → GoodIntent (kindFrom f) (varyingOf f .intent)
+        → From f (RefusalList.c25 ∷ RefusalList.c26 ∷ RefusalList.c27 ∷ RefusalList.c28 ∷ []) (fromTable f)
+    unfolding fromTable
+    from-table h i = step f (Decide.table-is (shapeIn f) f) RefusalList.c25 _ _ (to-25 h) from-25 (λ a. from-body h i)
+
+answers : (f : List ℕ) (r : RefusalList.Answer) → From f RefusalList.checks r → RefusalList.Answers f r
+answers f r (one-fails s) = RefusalList.refuses s
+answers f r (all-pass p v e) = RefusalList.accepts p v e
+
+pub answered : (f : List ℕ) → RefusalList.Answers f (read f)
+unfolding read
+answered f =
+    answers f _
+    (step f (decLe 132 (length f)) RefusalList.c21 _ _ (λ h. record { long = h }) (λ a. a .long) (λ a1.
+    step f (ℕ-discrete (varyingOf f .size) (length f)) RefusalList.c22 _ _ (λ h. record { size = h }) (λ a. a .size) (λ a2.
+    step f (Decide.header-is (kindFrom f) f) RefusalList.c23 _ _ (λ h. record { kind = kindFrom f; header = h }) (from-23 f a1) (λ a3.
+    step f (Decide.intent (kindFrom f) (varyingOf f .intent)) RefusalList.c24 _ _ (λ h. record { kind = kindFrom f; header = from-23 f a1 a3; intent = h }) (from-24 f a1) (λ a4.
+    from-table f a1 a2 (from-23 f a1 a3) (from-24 f a1 a4))))))

@@ -1,0 +1,136 @@
+-- The reader accepts exactly the files that plans lay out to, and has one answer to each file. Assumes nothing.
+use Prim.Native.Nat.{ℕ, _+_, _*_}
+use mathlib.Core.Path.{_≡_, refl, ap, ap₂, sym, _∙_, subst}
+use mathlib.Core.List.{List, _++_}
+use native.Mathlib.Omega.{arith}
+use lib.IntN.{ℤ}
+use lib.ListN.{length, drop, length-append, length-drop, take-append-drop}
+use lib.Seq.{take-at, drop-drop, length-take-le}
+use mir.Syntax.{w32}
+use mir.Val.{SFits}
+use Rattle.buffer.specs.All.{All, none, more}
+use Rattle.md5.specs.Md5.{md5}
+use Rattle.profile.specs.Elements.{start, table, body, file, fileLength}
+use Rattle.profile.specs.ElementsLaws.{length-table, length-body}
+use Rattle.profile.specs.Plan.{Plan, kind, Good, Valid, Wide}
+use Rattle.profile.specs.declared.Kind.{Kind}
+use Rattle.buffer.specs.Bytes.{zeros}
+use Rattle.profile.specs.Layout.{header, elements, slots, withId, blanked, profileId, layout}
+use Rattle.profile.specs.LayoutLaws.{length-id, layout-bounds, blanked-withId}
+use Rattle.reader_spec.specs.Table.{varyingOf, tagsOf, tableOf, bodyOf}
+use Rattle.reader_spec.specs.PlanIn.{planIn}
+use Rattle.reader_spec.specs.FileLaws.{varying, fours, header-128, length-slots, table-withId, body-withId, varying-withId, plan-in-withId, layout-injective, id-layout, size-layout, valid-wide}
+use Rattle.reader_spec.specs.RefusalList
+
+-- ---- the first failing check is one
+
+first-unique : {f : List ℕ} {cs : List RefusalList.Check} {c d : RefusalList.Check} → RefusalList.First f cs c → RefusalList.First f cs d → c ≡ d
+first-unique (RefusalList.fails h) (RefusalList.fails k) = refl
+first-unique (RefusalList.fails h) (RefusalList.later k s) = absurd (h k)
+first-unique (RefusalList.later h s) (RefusalList.fails k) = absurd (k h)
+first-unique (RefusalList.later h s) (RefusalList.later k t) = first-unique s t
+
+first-not-all : {f : List ℕ} {cs : List RefusalList.Check} {c : RefusalList.Check} → RefusalList.First f cs c → All (λ (d : RefusalList.Check). RefusalList.Passed d f) cs → ⊥
+first-not-all (RefusalList.fails h) (more k p) = h k
+first-not-all (RefusalList.later h s) (more k p) = first-not-all s p
+
+-- ---- a plan that has a file's regions has the file
+
+module _ (f : List ℕ) (ok21 : RefusalList.Ok21 f) where
+  pub id-length : length (varyingOf f .id) ≡ 16
+  unfolding varyingOf
+  id-length = length-take-le 16 (drop 84 f) (simp length-drop (omega (arith, ok21 .long)))
+
+  -- a header of some kind, and what follows it
+  pub after-header : (k : Kind) → RefusalList.Header k f → f ≡ header k (varyingOf f) ++ drop 128 f
+  unfolding RefusalList.Header
+  after-header k h = sym (take-append-drop 128 f) ∙ ap (λ x. x ++ drop 128 f) h
+
+  pub regions : drop 128 f ≡ tableOf f ++ bodyOf f
+  unfolding bodyOf tableOf
+  regions =
+      let e : 132 + 12 * tagsOf f ≡ 128 + (4 + 12 * tagsOf f) = omega arith in
+      rw (e, ← drop-drop (4 + 12 * tagsOf f) 128 f, take-append-drop)
+
+  module _ (ok22 : RefusalList.Ok22 f) (p : Plan) (w : Wide p) (h : RefusalList.Has p f) where
+    has-rest : drop 128 f ≡ table (slots p) ++ body (elements p)
+    has-rest = regions ∙ ap₂ _++_ (h .table) (h .body)
+
+    has-length : length f ≡ fileLength (slots p)
+    unfolding fileLength start
+    has-length =
+        omega (
+          arith,
+          ok21 .long,
+          simp (length-drop, length-append, length-body, length-table (slots p) (fours (SFits w32) p w)) at (ap length has-rest),
+        )
+
+    has-varying : varyingOf f ≡ varying (fileLength (slots p)) (varyingOf f .id) p
+    has-varying = λ i. record { size = (ok22 .size ∙ has-length) i; intent = h .intent i; id = varyingOf f .id }
+
+    pub has-withId : f ≡ withId (varyingOf f .id) p
+    unfolding withId file
+    has-withId = after-header (kind p) (h .header) ∙ ap₂ _++_ (ap (header (kind p)) has-varying) has-rest
+
+    -- so it is the one that is plan-is
+    pub has-plan-in : planIn f ≡ p
+    has-plan-in = ap planIn has-withId ∙ plan-in-withId p w (varyingOf f .id) id-length
+
+    -- and with the right id the file is its layout
+    pub has-layout : RefusalList.Ok28 f → layout p ≡ f
+    unfolding layout profileId
+    has-layout ok28 =
+        let e : varyingOf f .id ≡ md5 (blanked (withId (zeros 16) p)) =
+        ok28 .id ∙ ap (λ x. md5 (blanked x)) has-withId ∙ ap md5 (blanked-withId p (varyingOf f .id) id-length ∙ sym (blanked-withId p (zeros 16) refl))
+        in
+        rw (← e) (sym has-withId)
+
+-- ---- what a plan lays out to passes every check
+
+module _ (N : ℤ → Type 0) (p : Plan) (g : Good N p) (id : List ℕ) (sixteen : length id ≡ 16) where
+  header-of : RefusalList.Header (kind p) (withId id p)
+  unfolding RefusalList.Header
+  header-of =
+      rw (varying-withId N p g id sixteen)
+      (unfold withId file in (take-at (header (kind p) (varying (fileLength (slots p)) id p)) _ 128 (header-128 N p g id sixteen)))
+
+  has-of : RefusalList.Has p (withId id p)
+  has-of =
+      record {
+        header = header-of;
+        intent = ap (λ v. v .intent) (varying-withId N p g id sixteen);
+        table = table-withId N p g id sixteen;
+        body = body-withId N p g id sixteen;
+      }
+
+layout-has : (p : Plan) → Wide p → RefusalList.Has p (layout p)
+unfolding layout
+layout-has p w = has-of (SFits w32) p w _ (length-id _)
+
+abbrev AllPassed : List ℕ → Type 0
+AllPassed f = All (λ (c : RefusalList.Check). RefusalList.Passed c f) RefusalList.checks
+
+passes : (p : Plan) → Valid p → AllPassed (layout p)
+passes p v =
+    let w : Wide p = valid-wide p v in
+    let h : RefusalList.Has p (layout p) = layout-has p w in
+    let a1 : RefusalList.Ok21 (layout p) = record { long = omega (arith, layout-bounds (SFits w32) p w) } in
+    let a2 : RefusalList.Ok22 (layout p) = record { size = size-layout p w } in
+    let a3 : RefusalList.Ok23 (layout p) = record { kind = kind p; header = h .header } in
+    let a4 : RefusalList.Ok24 (layout p) = record { kind = kind p; header = h .header; intent = rw (h .intent) (v .intent) } in
+    let a5 : RefusalList.Ok25 (layout p) = record { plan = p; valid = v; header = h .header; table = h .table; length-is = length-slots (SFits w32) p w } in
+    let a6 : RefusalList.Ok26 (layout p) = record { plan = p; wide = w; has = h } in
+    let a7 : RefusalList.Ok27 (layout p) = record { plan = p; valid = v; has = h } in
+    let a8 : RefusalList.Ok28 (layout p) = record { id = id-layout p w } in
+    more a1 (more a2 (more a3 (more a4 (more a5 (more a6 (more a7 (more a8 none)))))))
+
+-- ---- there is one answer at most
+
+not-both : {f : List ℕ} {c : RefusalList.Check} (p : Plan) → Valid p → layout p ≡ f → RefusalList.First f RefusalList.checks c → ⊥
+not-both p v e s = first-not-all s (subst AllPassed e (passes p v))
+
+pub answer-unique : (f : List ℕ) (a b : RefusalList.Answer) → RefusalList.Answers f a → RefusalList.Answers f b → a ≡ b
+answer-unique f a b (RefusalList.refuses s) (RefusalList.refuses t) = ap RefusalList.refused (first-unique s t)
+answer-unique f a b (RefusalList.refuses s) (RefusalList.accepts q w e) = absurd (not-both q w e s)
+answer-unique f a b (RefusalList.accepts p v d) (RefusalList.refuses t) = absurd (not-both p v d t)
+answer-unique f a b (RefusalList.accepts p v d) (RefusalList.accepts q w e) = ap RefusalList.accepted (layout-injective p q (valid-wide p v) (valid-wide q w) (d ∙ sym e))
