@@ -19,16 +19,18 @@ use Rattle.color_encoding.specs.declared.JxlTransferFunction.the-variants as F
 use Rattle.color_encoding.specs.declared.JxlColorEncoding.the-variants.{RgbColorSpace, GrayscaleColorSpace, XYB}
 use Rattle.decimal.specs.Decimal.{digits, lastDigits}
 use Rattle.decimal.specs.Seven.{sevenDecimals}
-use Rattle.linalg.specs.Binary64.{abs}
+use Rattle.floats.specs.Abs.{abs}
 use Rattle.linalg.specs.Linalg.{dot, applied, product}
 use Rattle.linalg.specs.Inverse.{minor, cofactor, cofactors, determinant, adjugate, singular, inverse}
 use Rattle.numbers.specs.Narrow.{narrow}
-use Rattle.colorimetry.specs.White.{inRange, whiteXyz, finite, finiteXyz, cieXyzFromWhiteCieXy}
-use Rattle.colorimetry.specs.Adapt.{hasZero, allFinite, lms, gains, adaptable, adaptationMatrix, adaptToXyzD50, narrowed, createIccChadMatrix}
+use Rattle.color_encoding.specs.Range.{inRange}
+use Rattle.colorimetry.specs.White.{whiteXyz, finite, finiteXyz}
+use Rattle.colorimetry.specs.GrayWhite.{cieXyzFromWhiteCieXy}
+use Rattle.colorimetry.specs.Adapt.{hasZero, allFinite, lms, gains, adaptable, adaptationMatrix, adaptToXyzD50, narrowed, chadMatrix}
 use Rattle.colorimetry.specs.Primaries.{primariesMatrix, scaledPrimaries, primariesToXyz, primariesToXyzD50, createIccRgbMatrix}
 use Rattle.text.specs.Description.{whiteName, primariesName, transferName, rgbText, grayText, rgbDescription, description}
 use Rattle.profile.specs.Elements.{fileLength, start, bodySize, tagCount, padding}
-use Rattle.profile.specs.Plan.{Plan, grayPlan, rgbPlan, xybPlan}
+use Rattle.profile.specs.Plan.{Plan, gray, rgb, xyb}
 use Rattle.profile.specs.Shape.{slotsOf}
 use Rattle.profile.specs.Layout.{layout}
 use Rattle.profile.specs.LayoutLaws.{length-layout}
@@ -36,7 +38,7 @@ use Rattle.profile.specs.declared.CurveName.the-variants as Name
 use Rattle.profile.specs.declared.Curve.the-variants.{Named}
 use Rattle.profile.specs.declared.Cicp.the-variants.{Primaries}
 use Rattle.buffer.specs.Checked.{Checked, is}
-use Rattle.writer.specs.PlanOf.{planOf}
+use Rattle.encoding_plan.specs.PlanOf.{planOf}
 use Rattle.writer.specs.Writer.{answer}
 use Rattle.writer.specs.declared.Profile.the-variants.{Written}
 
@@ -110,10 +112,11 @@ exact : {q : Checked Plan} (p : Plan) (n : ℕ) → q ≡ is p → length (layou
 exact p n h e = ap (λ (c : Checked Plan). answer c n) h ∙ simp (e, le-leb n n (le-refl n))
 
 abbrev pub srgbPlan : ℕ → List ℕ → Plan
-srgbPlan i t = rgbPlan i t (Named Name.SRGB) chadD65 columnsSrgb (Primaries 1)
+srgbPlan i t =
+    record { intent = i; content = rgb (record { text = t; curve = Named Name.SRGB; chad = chadD65; columns = columnsSrgb; cicp = Primaries 1 }) }
 
 pub perceptual-plan : planOf (srgb Perceptual) ≡ is (srgbPlan 0 (ascii "sRGB"))
-unfolding planOf description rgbDescription createIccChadMatrix adaptToXyzD50 adaptationMatrix adaptable inRange finite finiteXyz whiteXyz hasZero allFinite lms gains narrowed createIccRgbMatrix primariesToXyzD50 primariesToXyz primariesMatrix scaledPrimaries singular inverse adjugate determinant cofactors cofactor minor abs applied product dot narrow s15Fixed16 ofBits neg eq lt le add sub mul div
+unfolding planOf description rgbDescription chadMatrix adaptToXyzD50 adaptationMatrix adaptable inRange finite finiteXyz whiteXyz hasZero allFinite lms gains narrowed createIccRgbMatrix primariesToXyzD50 primariesToXyz primariesMatrix scaledPrimaries singular inverse adjugate determinant cofactors cofactor minor abs applied product dot narrow s15Fixed16 ofBits neg eq lt le add sub mul div
 perceptual-plan = refl
 
 pub perceptual-504 : answer (planOf (srgb Perceptual)) 504 ≡ Written 504
@@ -121,24 +124,28 @@ unfolding slotsOf fileLength start bodySize tagCount padding
 perceptual-504 = exact _ 504 perceptual-plan (length-layout (srgbPlan 0 (ascii "sRGB")) (refl, refl))
 
 pub relative-plan : planOf (srgb Relative) ≡ is (srgbPlan 1 (ascii "RGB_D65_SRG_Rel_SRG"))
-unfolding planOf description rgbDescription rgbText whiteName primariesName transferName createIccChadMatrix adaptToXyzD50 adaptationMatrix adaptable inRange finite finiteXyz whiteXyz hasZero allFinite lms gains narrowed createIccRgbMatrix primariesToXyzD50 primariesToXyz primariesMatrix scaledPrimaries singular inverse adjugate determinant cofactors cofactor minor abs applied product dot narrow s15Fixed16 ofBits neg eq lt le add sub mul div
+unfolding planOf description rgbDescription rgbText whiteName primariesName transferName chadMatrix adaptToXyzD50 adaptationMatrix adaptable inRange finite finiteXyz whiteXyz hasZero allFinite lms gains narrowed createIccRgbMatrix primariesToXyzD50 primariesToXyz primariesMatrix scaledPrimaries singular inverse adjugate determinant cofactors cofactor minor abs applied product dot narrow s15Fixed16 ofBits neg eq lt le add sub mul div
 relative-plan = refl
 
 pub relative-536 : answer (planOf (srgb Relative)) 536 ≡ Written 536
 unfolding slotsOf fileLength start bodySize tagCount padding
 relative-536 = exact _ 536 relative-plan (length-layout (srgbPlan 1 (ascii "RGB_D65_SRG_Rel_SRG")) (refl, refl))
 
-abbrev gray : Plan
-gray = grayPlan 1 (ascii "Gra_D65_Rel_SRG") (Named Name.SRGB) (pos 62289) (pos 71372)
+abbrev grayD65 : Plan
+grayD65 =
+    record { intent = 1; content = gray (record { text = ascii "Gra_D65_Rel_SRG"; curve = Named Name.SRGB; white-x = pos 62289; white-z = pos 71372 }) }
 
-pub gray-plan : planOf (GrayscaleColorSpace W.D65 F.SRGB Relative) ≡ is gray
+pub gray-plan : planOf (GrayscaleColorSpace W.D65 F.SRGB Relative) ≡ is grayD65
 unfolding planOf description grayText whiteName transferName cieXyzFromWhiteCieXy abs s15Fixed16 ofBits neg eq lt le add sub mul div
 gray-plan = refl
 
 pub gray-328 : answer (planOf (GrayscaleColorSpace W.D65 F.SRGB Relative)) 328 ≡ Written 328
 unfolding slotsOf fileLength start bodySize tagCount padding
-gray-328 = exact _ 328 gray-plan (length-layout gray tt)
+gray-328 = exact _ 328 gray-plan (length-layout grayD65 tt)
+
+abbrev xybPlan : Plan
+xybPlan = record { intent = 0; content = xyb }
 
 pub xyb-720 : answer (planOf (XYB Perceptual)) 720 ≡ Written 720
 unfolding planOf slotsOf fileLength start bodySize tagCount padding
-xyb-720 = exact (xybPlan 0) 720 refl (length-layout (xybPlan 0) tt)
+xyb-720 = exact xybPlan 720 refl (length-layout xybPlan tt)

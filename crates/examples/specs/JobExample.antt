@@ -9,15 +9,18 @@ use Rattle.numbers.specs.Words.{word32}
 use Rattle.color_encoding.specs.declared.RenderingIntent.the-variants.{Perceptual, Relative}
 use Rattle.color_encoding.specs.declared.JxlColorEncoding.the-variants.{XYB}
 use Rattle.decimal.specs.Decimal.{digitsUpTo, digits}
-use Rattle.profile.specs.TagTypes.{join, zeros}
+use Rattle.buffer.specs.Bytes.{zeros}
+use Rattle.profile.specs.TagTypes.{join}
 use Rattle.profile.specs.Elements.{fileLength, start, bodySize, tagCount, padding}
 use Rattle.profile.specs.Shape.{slotsOf}
 use Rattle.profile.specs.LayoutLaws.{length-layout}
-use Rattle.writer.specs.PlanOf.{planOf}
+use Rattle.encoding_plan.specs.PlanOf.{planOf}
 use Rattle.writer.specs.declared.Profile.the-variants.{Written, Refused}
-use Rattle.job.specs.Job.{entriesFrom, cut, grayEncoding, rgbEncoding, xybEncoding, job}
+use Rattle.job_entry.specs.Entry.{grayEncoding, rgbEncoding, xybEncoding}
+use Rattle.job.specs.Job.{entriesFrom, cut, job}
 use Rattle.job.specs.declared.JobEntry.{JobEntry}
-use Rattle.job_output.specs.JobOutput.{enough, firstLine, entryLine, outputOf, listing}
+use Rattle.entry_output.specs.EntryOutput.{enough, firstLine, entryLine}
+use Rattle.job_output.specs.JobOutput.{outputOf, listing}
 use Rattle.examples.specs.Examples.{srgb, srgbPlan, perceptual-plan}
 
 -- no gray entry; the sRGB entry: white, primaries, curve and intent; one XYB entry, Relative

@@ -15,14 +15,14 @@ use Rattle.text.specs.Held.{HeldEncoding}
 use Rattle.profile.specs.Plan.{Plan, Valid}
 use Rattle.profile.specs.Layout.{layout}
 use Rattle.buffer.specs.Checked.{Checked, is, refused}
-use Rattle.writer.specs.PlanOf.{planOf}
+use Rattle.encoding_plan.specs.PlanOf.{planOf}
 use Rattle.writer.specs.Writer.{answer, output}
 use Rattle.writer.specs.declared.Profile.the-variants.{Written, Refused}
 use Rattle.writer_laws.specs.PlanValid.{plan-valid}
-use Rattle.reading.specs.Reader.{accepted}
-use Rattle.reading.specs.Read.{read}
-use Rattle.reading.specs.Owners.{Owned}
-use Rattle.reading.specs.Accepts as Accepts
+use Rattle.reader_spec.specs.RefusalList.{accepted}
+use Rattle.reader_spec.specs.Read.{read}
+use Rattle.reader_spec.specs.Owners.{Owned}
+use Rattle.reader_spec.specs.Accepts as Accepts
 
 -- ---- the reader
 

@@ -1,0 +1,101 @@
+-- Demand 2 of the writer: with enough output and a curve other than PQ and HLG, writing succeeds exactly if `validate_icc_matrix` does, a
+-- gamma's reciprocal fits, and XYB is Perceptual; and where `validate_icc_matrix` refuses, the writer refuses by a number that its answer stands
+-- for. The floats of the encoding are binary32 values, as those of the code are. Assumes nothing.
+use Prim.Native.Nat.{ℕ, _≤_}
+use mathlib.Core.Path.{_≡_, refl, ap, _∙_}
+use mathlib.Core.Logic.{_↔_}
+use mathlib.Core.Bool.{true}
+use lib.ListN.{length}
+use lib.IntN.{ℤ}
+use lib.Ieee.{Float}
+use Rattle.buffer.specs.Checked.{Checked, is, refused}
+use Rattle.buffer.specs.CheckedLaws.{Passes}
+use Rattle.floats.specs.Binary32.{_⊘_, one}
+use Rattle.numbers.specs.Fixed.{s15Fixed16}
+use Rattle.numbers.specs.declared.fixed.S15Fixed16.the-variants.{Number}
+use Rattle.color_encoding.specs.declared.RenderingIntent.the-variants.{Perceptual}
+use Rattle.color_encoding.specs.declared.JxlTransferFunction.{JxlTransferFunction}
+use Rattle.color_encoding.specs.declared.JxlTransferFunction.the-variants as F
+use Rattle.color_encoding.specs.declared.JxlColorEncoding.{JxlColorEncoding}
+use Rattle.color_encoding.specs.declared.JxlColorEncoding.the-variants.{RgbColorSpace, GrayscaleColorSpace, XYB}
+use Rattle.text.specs.Held.{HeldEncoding}
+use Rattle.profile.specs.Layout.{layout}
+use Rattle.encoding_plan.specs.PlanOf.{planOf}
+use Rattle.validate.specs.Validate.{inRange, standsFor, validation, validateIccMatrix}
+use Rattle.validate.specs.declared.Validation.the-variants.{Valid}
+use Rattle.writer.specs.Writer.{answer}
+use Rattle.writer.specs.declared.Profile.the-variants.{Written, Refused}
+use Rattle.demands.specs.Demand2Laws.{valid-if, named, has-plan, written, gray-planned, gray-plan-if, gray-refused, rgb-planned, rgb-plan-if, rgb-refused, perceptual-if, xyb-valid, xyb-plan-if, xyb-refused}
+
+-- ---- the conditions
+
+-- the curve is neither PQ nor HLG; XYB has none
+abbrev NeitherPqNorHlg : JxlTransferFunction → Type 0
+NeitherPqNorHlg t = (t ≡ F.PQ → ⊥) × (t ≡ F.HLG → ⊥)
+
+abbrev pub NotHdr : JxlColorEncoding → Type 0
+NotHdr (RgbColorSpace w p t i) = NeitherPqNorHlg t
+NotHdr (GrayscaleColorSpace w t i) = NeitherPqNorHlg t
+NotHdr (XYB i) = Unit {0}
+
+-- where the curve is a gamma g, 1 / g, divided in f32, has a fixed number
+abbrev ReciprocalFits : JxlTransferFunction → Type 0
+ReciprocalFits t = (g : Float) → t ≡ F.Gamma g → (z : ℤ) × (s15Fixed16 (one ⊘ g) ≡ Number z)
+
+abbrev pub GammaFits : JxlColorEncoding → Type 0
+GammaFits (RgbColorSpace w p t i) = ReciprocalFits t
+GammaFits (GrayscaleColorSpace w t i) = ReciprocalFits t
+GammaFits (XYB i) = Unit {0}
+
+-- XYB has the intent Perceptual
+abbrev pub PerceptualXyb : JxlColorEncoding → Type 0
+PerceptualXyb (RgbColorSpace w p t i) = Unit {0}
+PerceptualXyb (GrayscaleColorSpace w t i) = Unit {0}
+PerceptualXyb (XYB i) = i ≡ Perceptual
+
+pub record Acceptable (e : JxlColorEncoding) : Type 0 where
+  pub matrix : validateIccMatrix e ≡ Valid
+  pub gamma : GammaFits e
+  pub intent : PerceptualXyb e
+
+-- what `maybe_create_profile` answers for an output of n bytes is a length
+pub record Succeeds (e : JxlColorEncoding) (n : ℕ) : Type 0 where
+  pub size : ℕ
+  pub answers : answer (planOf e) n ≡ Written size
+
+-- what it answers is a number that the answer of `validate_icc_matrix` stands for
+pub record RefusesAsNamed (e : JxlColorEncoding) (n : ℕ) : Type 0 where
+  pub number : ℕ
+  pub answers : answer (planOf e) n ≡ Refused number
+  pub named : standsFor (validateIccMatrix e) number ≡ true
+
+-- ---- the theorems
+
+pub succeeds-exactly-if : (e : JxlColorEncoding) → HeldEncoding e → NotHdr e → (n : ℕ) → 1200 ≤ n → Succeeds e n ↔ Acceptable e
+succeeds-exactly-if e held h n enough = (λ s. acceptable e (has-plan e n (s .answers)), λ a. succeeds (plan e h a))
+  where
+    acceptable : (e : JxlColorEncoding) → Passes (planOf e) → Acceptable e
+    acceptable (GrayscaleColorSpace w t i) p = let a = gray-planned w t i (p .given) in record { matrix = ap validation (a .0); gamma = a .1; intent = tt }
+    acceptable (RgbColorSpace w q t i) p = let a = rgb-planned w q t i (p .given) in record { matrix = ap validation (a .0); gamma = a .1; intent = tt }
+    acceptable (XYB i) p = record { matrix = xyb-valid i; gamma = tt; intent = perceptual-if i (p .given) }
+
+    plan : (e : JxlColorEncoding) → NotHdr e → Acceptable e → Passes (planOf e)
+    plan (GrayscaleColorSpace w t i) h a = gray-plan-if w t i h (a .gamma) (valid-if _ (a .matrix))
+    plan (RgbColorSpace w q t i) h a = rgb-plan-if w q t i h (a .gamma) (valid-if _ (a .matrix))
+    plan (XYB i) h a = xyb-plan-if i (a .intent)
+
+    succeeds : Passes (planOf e) → Succeeds e n
+    succeeds p = record { size = length (layout (p .value)); answers = written e held n enough (p .given) }
+
+pub refuses-as-named : (e : JxlColorEncoding) → NotHdr e → (validateIccMatrix e ≡ Valid → ⊥) → (n : ℕ) → RefusesAsNamed e n
+refuses-as-named e h invalid n = go (inRange e) refl
+  where
+    refuses : (e : JxlColorEncoding) → NotHdr e → {k : ℕ} → inRange e ≡ refused k → planOf e ≡ refused k
+    refuses (GrayscaleColorSpace w t i) h r = gray-refused w t i h r
+    refuses (RgbColorSpace w q t i) h r = rgb-refused w q t i h r
+    refuses (XYB i) h r = xyb-refused i r
+
+    go : (c : Checked (Unit {0})) → inRange e ≡ c → RefusesAsNamed e n
+    go (is u) r = absurd (invalid (ap validation r))
+    go (refused k) r =
+        record { number = k; answers = ap (λ p. answer p n) (refuses e h r); named = ap (λ c. standsFor (validation c) k) r ∙ named e r }

@@ -1,0 +1,327 @@
+-- What demand 2 stands on: the tests of `validate_icc_matrix` pass exactly where the numbers of the plan are given, and refuse by the same number.
+-- Assumes nothing.
+use Prim.Native.Nat.{ℕ, _≤_}
+use mathlib.Core.Path.{_≡_, refl, sym, ap, _∙_}
+use mathlib.Core.Bool.{Bool, true, false, cond}
+use mathlib.Core.List.{List, [], _∷_}
+use native.Mathlib.Nat.{le-trans}
+use native.Mathlib.Omega.{arith}
+use lib.ListN.{length}
+use lib.IntN.{ℤ}
+use lib.Ieee.{Float, ofBits, lt, le, eq}
+use borrow.Author.Tests.{le-leb}
+use Rattle.buffer.specs.All.{All, none, more}
+use Rattle.buffer.specs.BoolLaws as Bools
+use Rattle.buffer.specs.Checked.{Checked, is, refused, then, each}
+use Rattle.buffer.specs.CheckedLaws.{Passes, never, both}
+use Rattle.floats.specs.Binary32.{_⊘_, one}
+use Rattle.numbers.specs.Fixed.{s15Fixed16, fixedOr}
+use Rattle.numbers.specs.FixedLaws.{number-if}
+use Rattle.numbers.specs.declared.fixed.S15Fixed16.{S15Fixed16}
+use Rattle.numbers.specs.declared.fixed.S15Fixed16.the-variants.{Number, OutOfRange}
+use Rattle.linalg.specs.Linalg.{component, rows, columns}
+use Rattle.color_encoding.specs.Coordinates.{whiteXy, primariesXy}
+use Rattle.color_encoding.specs.declared.RenderingIntent.{RenderingIntent}
+use Rattle.color_encoding.specs.declared.RenderingIntent.the-variants.{Perceptual, Relative, Saturation, Absolute}
+use Rattle.color_encoding.specs.declared.WhiteXy.{WhiteXy}
+use Rattle.color_encoding.specs.declared.PrimariesXy.{PrimariesXy}
+use Rattle.color_encoding.specs.declared.JxlWhitePoint.{JxlWhitePoint}
+use Rattle.color_encoding.specs.declared.JxlPrimaries.{JxlPrimaries}
+use Rattle.color_encoding.specs.declared.JxlTransferFunction.{JxlTransferFunction}
+use Rattle.color_encoding.specs.declared.JxlTransferFunction.the-variants as F
+use Rattle.color_encoding.specs.declared.JxlColorEncoding.{JxlColorEncoding}
+use Rattle.color_encoding.specs.declared.JxlColorEncoding.the-variants.{RgbColorSpace, GrayscaleColorSpace, XYB}
+use Rattle.colorimetry.specs.GrayWhite.{cieXyzFromWhiteCieXy}
+use Rattle.colorimetry.specs.WhiteLaws.{gray-white}
+use Rattle.colorimetry.specs.Adapt.{chadMatrix}
+use Rattle.colorimetry.specs.Primaries.{createIccRgbMatrix}
+use Rattle.colorimetry.specs.RefusalLaws.{Refusing, refusing, by-then, by-cond, by-white, by-chad, by-rgb-matrix}
+use Rattle.text.specs.Held.{HeldEncoding}
+use Rattle.profile.specs.Plan.{Plan}
+use Rattle.profile.specs.Layout.{layout}
+use Rattle.profile.specs.declared.Curve.{Curve}
+use Rattle.profile.specs.declared.Curve.the-variants.{Gamma}
+use Rattle.encoding_plan.specs.Answers.{reciprocalRefusal}
+use Rattle.encoding_plan.specs.PlanOf.{supported, curveOf, grayNumbers, chadNumbers, columnNumbers, planOf}
+use Rattle.encoding_plan.specs.PlanOfLaws.{gray-plan, rgb-plan}
+use Rattle.encoding_plan.specs.declared.curve.SupportedCurve.{SupportedCurve}
+use Rattle.encoding_plan.specs.declared.curve.SupportedCurve.the-variants as Supported
+use Rattle.validate.specs.Validate.{isS15Fixed16, allS15Fixed16, inRangeOr, whiteInRange, matrixInRange, matricesInRange, inRange, standsFor, errorAt, validation, validateIccMatrix}
+use Rattle.validate.specs.declared.Validation.the-variants.{Valid, InvalidWhitePointY, InvalidWhitePoint, MatrixInversionFailed, ValueOutOfRange}
+use Rattle.writer.specs.Writer.{answer}
+use Rattle.writer.specs.declared.Profile.the-variants.{Written, Refused}
+use Rattle.writer_laws.specs.WrittenLength.{written-length}
+use Rattle.demands.specs.FixedRangeLaws.{isNumber, fixed-range}
+
+-- ---- whether a check passed, without what it gave
+
+abbrev passed : {A : Type 0} → Checked A → Checked (Unit {0})
+passed c = then c (λ _. is tt)
+
+passed-then : {A B : Type 0} (c : Checked A) (d : Checked B) → passed (then c (λ _. d)) ≡ then (passed c) (λ _. passed d)
+passed-then (is a) d = refl
+passed-then (refused n) d = refl
+
+passed-after : {A B : Type 0} (c : Checked A) (d : Checked B) → passed (then c (λ _. d)) ≡ then c (λ _. passed d)
+passed-after (is a) d = refl
+passed-after (refused n) d = refl
+
+passed-cons : {A : Type 0} (a : A) (c : Checked (List A)) → passed (then c (λ xs. is (a ∷ xs))) ≡ passed c
+passed-cons a (is xs) = refl
+passed-cons a (refused n) = refl
+
+refused-as : {A B : Type 0} (c : Checked A) {n : ℕ} → passed c ≡ refused n → (f : A → Checked B) → then c f ≡ refused n
+refused-as (is a) e f = absurd (never (sym e))
+refused-as (refused k) {n} e f = let same : k ≡ n = cc in ap refused same
+
+refused-after : {A B C : Type 0} (c : Checked A) (d : Checked B) {n : ℕ} → passed (then c (λ _. d)) ≡ refused n
+    → (f : A → B → Checked C) → then c (λ a. then d (λ b. f a b)) ≡ refused n
+refused-after (is a) d e f = refused-as d e (λ b. f a b)
+refused-after (refused k) d {n} e f = let same : k ≡ n = cc in ap refused same
+
+-- ---- the range test of floats, and their fixed numbers
+
+each-tested : (n : ℕ) (xs : List Float) → passed (each (fixedOr n) xs) ≡ inRangeOr n xs
+each-tested n [] = refl
+each-tested n (x ∷ xs) = go (s15Fixed16 x) refl (each-tested n xs)
+  where
+    go : (s : S15Fixed16) → s15Fixed16 x ≡ s → passed (each (fixedOr n) xs) ≡ inRangeOr n xs → passed (each (fixedOr n) (x ∷ xs)) ≡ inRangeOr n (x ∷ xs)
+    go (Number z) h rest =
+        let t : isS15Fixed16 x ≡ true = fixed-range x ∙ ap isNumber h in
+        simp (h, t) (passed-cons z (each (fixedOr n) xs) ∙ rest)
+    go OutOfRange h rest = let t : isS15Fixed16 x ≡ false = fixed-range x ∙ ap isNumber h in simp (h, t)
+
+abbrev Tested : Float → Type 0
+Tested x = isS15Fixed16 x ≡ true
+
+all-tested : (xs : List Float) → All Tested xs → allS15Fixed16 xs ≡ true
+all-tested [] none = refl
+all-tested (x ∷ xs) (more h hs) = Bools.both h (all-tested xs hs)
+
+tested-all : (xs : List Float) → allS15Fixed16 xs ≡ true → All Tested xs
+tested-all [] e = none
+tested-all (x ∷ xs) e = more (Bools.both-left (isS15Fixed16 x) (allS15Fixed16 xs) e) (tested-all xs (Bools.both-right (isS15Fixed16 x) (allS15Fixed16 xs) e))
+
+transposed : {a b c d e f g h i : Float} → All Tested (a ∷ d ∷ g ∷ b ∷ e ∷ h ∷ c ∷ f ∷ i ∷ []) → All Tested (a ∷ b ∷ c ∷ d ∷ e ∷ f ∷ g ∷ h ∷ i ∷ [])
+transposed (more a (more d (more g (more b (more e (more h (more c (more f (more i none))))))))) =
+    more a (more b (more c (more d (more e (more f (more g (more h (more i none))))))))
+
+same-test : (a b : Bool) → (a ≡ true → b ≡ true) → (b ≡ true → a ≡ true) → a ≡ b
+same-test true b f g = sym (f refl)
+same-test false true f g = g refl
+same-test false false f g = refl
+
+by-columns : (m : List (List Float)) → allS15Fixed16 (columns m) ≡ allS15Fixed16 (rows m)
+by-columns m =
+    same-test (allS15Fixed16 (columns m)) (allS15Fixed16 (rows m))
+    (λ t. all-tested (rows m) (transposed (tested-all (columns m) t)))
+    (λ t. all-tested (columns m) (transposed (tested-all (rows m) t)))
+
+-- ---- the tests of `validate_icc_matrix` are those of the plan's numbers
+
+columns-tested : (p : PrimariesXy) (w : WhiteXy) → passed (columnNumbers p w) ≡ matrixInRange p w
+columns-tested p w = go (createIccRgbMatrix p w)
+  where
+    go : (c : Checked (List (List Float))) → passed (then c (λ m. each (fixedOr 7) (columns m))) ≡ then c (λ m. inRangeOr 7 (rows m))
+    go (is m) = each-tested 7 (columns m) ∙ ap (λ b. cond b (is tt) (refused 7)) (by-columns m)
+    go (refused n) = refl
+
+rgb-tested : (p : PrimariesXy) (w : WhiteXy) → passed (then (chadNumbers w) (λ _. columnNumbers p w)) ≡ matricesInRange p w
+rgb-tested p w = go (chadMatrix w)
+  where
+    go : (c : Checked (List (List Float)))
+        → passed (then (then c (λ m. each (fixedOr 5) (rows m))) (λ _. columnNumbers p w)) ≡ then c (λ m. then (inRangeOr 5 (rows m)) (λ _. matrixInRange p w))
+    go (is m) = passed-then (each (fixedOr 5) (rows m)) (columnNumbers p w) ∙ rw (each-tested 5 (rows m), columns-tested p w)
+    go (refused n) = refl
+
+one-tested : isS15Fixed16 one ≡ true
+unfolding le lt eq ofBits
+one-tested = refl
+
+gray-tested : (w : WhiteXy) → passed (grayNumbers w) ≡ whiteInRange w
+gray-tested w = go (cieXyzFromWhiteCieXy w) refl
+  where
+    two : (x z : Float) (s t : S15Fixed16) → s15Fixed16 x ≡ s → s15Fixed16 z ≡ t
+        → passed {A = ℤ × ℤ} (then (fixedOr 7 x) (λ a. then (fixedOr 7 z) (λ b. is (a, b)))) ≡ inRangeOr 7 (x ∷ one ∷ z ∷ [])
+    two x z (Number a) (Number b) h g =
+        let tx : isS15Fixed16 x ≡ true = fixed-range x ∙ ap isNumber h in
+        let tz : isS15Fixed16 z ≡ true = fixed-range z ∙ ap isNumber g in
+        simp (h, g, tx, one-tested, tz)
+    two x z (Number a) OutOfRange h g =
+        let tx : isS15Fixed16 x ≡ true = fixed-range x ∙ ap isNumber h in
+        let tz : isS15Fixed16 z ≡ false = fixed-range z ∙ ap isNumber g in
+        simp (h, g, tx, one-tested, tz)
+    two x z OutOfRange t h g = let tx : isS15Fixed16 x ≡ false = fixed-range x ∙ ap isNumber h in simp (h, tx)
+
+    go : (c : Checked (List Float)) → cieXyzFromWhiteCieXy w ≡ c → passed (grayNumbers w) ≡ whiteInRange w
+    go (is v) h =
+        rw h
+        (two (component v 0) (component v 2) (s15Fixed16 (component v 0)) (s15Fixed16 (component v 2)) refl refl
+        ∙ ap (inRangeOr 7) (sym (gray-white w h)))
+    go (refused n) h = rw h
+
+-- ---- the answer
+
+pub valid-if : (c : Checked (Unit {0})) → validation c ≡ Valid → c ≡ is tt
+valid-if (is u) e = refl
+valid-if (refused n) e = go (standsFor InvalidWhitePointY n) (standsFor InvalidWhitePoint n) (standsFor MatrixInversionFailed n) e
+  where
+    go : (a b c : Bool)
+        → cond a InvalidWhitePointY (cond b InvalidWhitePoint (cond c MatrixInversionFailed ValueOutOfRange)) ≡ Valid → _≡_ {A = Checked (Unit {0})} (refused n) (is tt)
+    go true b c e = cc
+    go false true c e = cc
+    go false false true e = cc
+    go false false false e = cc
+
+-- a number that the tests refuse by is one that the answer stands for
+abbrev pub Named : ℕ → Type 0
+Named n = standsFor (errorAt n) n ≡ true
+
+in-range-or : (n : ℕ) → Named n → (vs : List Float) → Refusing Named (inRangeOr n vs)
+in-range-or n h vs = by-cond Named (allS15Fixed16 vs) _ _ tt h
+
+by-tests : (e : JxlColorEncoding) → Refusing Named (inRange e)
+unfolding inRange
+by-tests (GrayscaleColorSpace w t i) = by-then Named (cieXyzFromWhiteCieXy (whiteXy w)) _ (by-white Named refl (whiteXy w)) (in-range-or 7 refl)
+by-tests (RgbColorSpace w p t i) =
+    by-then Named (chadMatrix (whiteXy w)) _ (by-chad Named refl (whiteXy w)) (λ m.
+    by-then Named (inRangeOr 5 (rows m)) _ (in-range-or 5 refl (rows m)) (λ _.
+    by-then Named (createIccRgbMatrix (primariesXy p) (whiteXy w)) _ (by-rgb-matrix Named refl (whiteXy w) refl (primariesXy p)) (λ m.
+    in-range-or 7 refl (rows m))))
+by-tests (XYB i) = tt
+
+pub named : (e : JxlColorEncoding) {n : ℕ} → inRange e ≡ refused n → Named n
+named e h = refusing Named (by-tests e) h
+
+-- ---- the curve
+
+-- where the curve is a gamma, its reciprocal has a fixed number
+abbrev Reciprocal : JxlTransferFunction → Type 0
+Reciprocal t = (g : Float) → t ≡ F.Gamma g → (z : ℤ) × (s15Fixed16 (one ⊘ g) ≡ Number z)
+
+module _ (t : JxlTransferFunction) where
+  reciprocal-if : {s : SupportedCurve} {c : Curve} → supported t ≡ is s → curveOf s ≡ is c → Reciprocal t
+  reciprocal-if {s} {c} h f g e =
+      let gamma : is (Supported.Gamma g) ≡ is s = sym (ap supported e) ∙ h in
+      let same : Supported.Gamma g ≡ s = cc in
+      let a = both (fixedOr reciprocalRefusal (one ⊘ g)) _ (ap curveOf same ∙ f) in
+      (a .value, number-if reciprocalRefusal (one ⊘ g) (a .first))
+
+  supported-if : (t ≡ F.PQ → ⊥) × (t ≡ F.HLG → ⊥) → Passes (supported t)
+  supported-if h = go t refl
+    where
+      go : (u : JxlTransferFunction) → t ≡ u → Passes (supported t)
+      go F.BT709 e = record { value = _; given = ap supported e }
+      go F.Linear e = record { value = _; given = ap supported e }
+      go F.SRGB e = record { value = _; given = ap supported e }
+      go F.DCI e = record { value = _; given = ap supported e }
+      go (F.Gamma g) e = record { value = _; given = ap supported e }
+      go F.PQ e = absurd (h .0 e)
+      go F.HLG e = absurd (h .1 e)
+
+  curve-if : {s : SupportedCurve} → supported t ≡ is s → Reciprocal t → Passes (curveOf s)
+  curve-if {s} h f = go t refl
+    where
+      given-by : (n : SupportedCurve) (c : Curve) → is n ≡ is s → curveOf n ≡ is c → Passes (curveOf s)
+      given-by n c e g = let same : n ≡ s = cc in record { value = c; given = ap curveOf (sym same) ∙ g }
+
+      go : (u : JxlTransferFunction) → t ≡ u → Passes (curveOf s)
+      go F.BT709 e = given-by _ _ (sym (ap supported e) ∙ h) refl
+      go F.Linear e = given-by _ _ (sym (ap supported e) ∙ h) refl
+      go F.SRGB e = given-by _ _ (sym (ap supported e) ∙ h) refl
+      go F.DCI e = given-by _ _ (sym (ap supported e) ∙ h) refl
+      go (F.Gamma g) e = let z = f g e in given-by (Supported.Gamma g) (Gamma (z .0)) (sym (ap supported e) ∙ h) (simp (z .1))
+      go F.PQ e = absurd (never (sym (ap supported e) ∙ h))
+      go F.HLG e = absurd (never (sym (ap supported e) ∙ h))
+
+-- ---- an encoding has a plan exactly if its numbers are in range and its curve is given, and is refused by the same number
+
+module _ (w : JxlWhitePoint) (t : JxlTransferFunction) (i : RenderingIntent) where
+  pub gray-planned : {p : Plan} → planOf (GrayscaleColorSpace w t i) ≡ is p → (inRange (GrayscaleColorSpace w t i) ≡ is tt) × Reciprocal t
+  unfolding planOf inRange
+  gray-planned e =
+      let s = both (supported t) _ e in
+      let n = both (grayNumbers (whiteXy w)) _ (s .second) in
+      let c = both (curveOf (s .value)) _ (n .second) in
+      (sym (gray-tested (whiteXy w)) ∙ ap passed (n .first), reciprocal-if t (s .first) (c .first))
+
+  module _ (h : (t ≡ F.PQ → ⊥) × (t ≡ F.HLG → ⊥)) where
+    pub gray-plan-if : Reciprocal t → inRange (GrayscaleColorSpace w t i) ≡ is tt → Passes (planOf (GrayscaleColorSpace w t i))
+    unfolding inRange
+    gray-plan-if f e =
+        let s = supported-if t h in
+        let n = both (grayNumbers (whiteXy w)) (λ _. is tt) (gray-tested (whiteXy w) ∙ e) in
+        let c = curve-if t (s .given) f in
+        record { value = _; given = gray-plan w t i (s .given) (n .first) (c .given) }
+
+    pub gray-refused : {n : ℕ} → inRange (GrayscaleColorSpace w t i) ≡ refused n → planOf (GrayscaleColorSpace w t i) ≡ refused n
+    unfolding planOf inRange
+    gray-refused e = rw (supported-if t h .given) (refused-as (grayNumbers (whiteXy w)) (gray-tested (whiteXy w) ∙ e) _)
+
+module _ (w : JxlWhitePoint) (q : JxlPrimaries) (t : JxlTransferFunction) (i : RenderingIntent) where
+  pub rgb-planned : {p : Plan} → planOf (RgbColorSpace w q t i) ≡ is p → (inRange (RgbColorSpace w q t i) ≡ is tt) × Reciprocal t
+  unfolding planOf inRange
+  rgb-planned e =
+      let s = both (supported t) _ e in
+      let m = both (chadNumbers (whiteXy w)) _ (s .second) in
+      let k = both (columnNumbers (primariesXy q) (whiteXy w)) _ (m .second) in
+      let c = both (curveOf (s .value)) _ (k .second) in
+      (sym (rgb-tested (primariesXy q) (whiteXy w)) ∙ rw (m .first, k .first), reciprocal-if t (s .first) (c .first))
+
+  module _ (h : (t ≡ F.PQ → ⊥) × (t ≡ F.HLG → ⊥)) where
+    pub rgb-plan-if : Reciprocal t → inRange (RgbColorSpace w q t i) ≡ is tt → Passes (planOf (RgbColorSpace w q t i))
+    unfolding inRange
+    rgb-plan-if f e =
+        let columns = columnNumbers (primariesXy q) (whiteXy w) in
+        let s = supported-if t h in
+        let m = both (chadNumbers (whiteXy w)) (λ _. passed columns) (sym (passed-after (chadNumbers (whiteXy w)) columns) ∙ rgb-tested (primariesXy q) (whiteXy w) ∙ e) in
+        let k = both columns (λ _. is tt) (m .second) in
+        let c = curve-if t (s .given) f in
+        record { value = _; given = rgb-plan w q t i (s .given) (m .first) (k .first) (c .given) }
+
+    pub rgb-refused : {n : ℕ} → inRange (RgbColorSpace w q t i) ≡ refused n → planOf (RgbColorSpace w q t i) ≡ refused n
+    unfolding planOf inRange
+    rgb-refused e =
+        rw (supported-if t h .given)
+        (refused-after (chadNumbers (whiteXy w)) (columnNumbers (primariesXy q) (whiteXy w)) (rgb-tested (primariesXy q) (whiteXy w) ∙ e) _)
+
+module _ (i : RenderingIntent) where
+  pub perceptual-if : {p : Plan} → planOf (XYB i) ≡ is p → i ≡ Perceptual
+  unfolding planOf
+  perceptual-if e = go i refl
+    where
+      go : (j : RenderingIntent) → i ≡ j → i ≡ Perceptual
+      go Perceptual h = h
+      go Relative h = absurd (never (sym (ap (λ j. planOf (XYB j)) h) ∙ e))
+      go Saturation h = absurd (never (sym (ap (λ j. planOf (XYB j)) h) ∙ e))
+      go Absolute h = absurd (never (sym (ap (λ j. planOf (XYB j)) h) ∙ e))
+
+  pub xyb-plan-if : i ≡ Perceptual → Passes (planOf (XYB i))
+  unfolding planOf
+  xyb-plan-if h = record { value = _; given = ap (λ j. planOf (XYB j)) h }
+
+  pub xyb-valid : validateIccMatrix (XYB i) ≡ Valid
+  unfolding inRange
+  xyb-valid = refl
+
+  pub xyb-refused : {n : ℕ} → inRange (XYB i) ≡ refused n → planOf (XYB i) ≡ refused n
+  unfolding inRange
+  xyb-refused e = absurd (never (sym e))
+
+-- ---- with 1,200 bytes of output a plan is written, and what is written has a plan
+
+module _ (e : JxlColorEncoding) where
+  pub written : HeldEncoding e → (n : ℕ) → 1200 ≤ n → {p : Plan} → planOf e ≡ is p → answer (planOf e) n ≡ Written (length (layout p))
+  written held n enough {p} h =
+      let room : length (layout p) ≤ n = le-trans (written-length e held h .1) enough in
+      ap (λ c. answer c n) h ∙ simp (le-leb _ _ room)
+
+  pub has-plan : (n : ℕ) {size : ℕ} → answer (planOf e) n ≡ Written size → Passes (planOf e)
+  has-plan n {size} w = go (planOf e) refl
+    where
+      not-written : {k : ℕ} → Refused k ≡ Written size → ⊥
+      not-written e = let z : _≡_ {A = ℕ} 0 1 = cc in omega arith
+
+      go : (c : Checked Plan) → planOf e ≡ c → Passes (planOf e)
+      go (is p) h = record { value = p; given = h }
+      go (refused k) h = absurd (not-written (sym (ap (λ c. answer c n) h) ∙ w))

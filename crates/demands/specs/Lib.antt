@@ -1,0 +1,4 @@
+pub mod FixedRangeLaws
+pub mod Demand2Laws
+pub mod Demand2
+pub mod Demand3
