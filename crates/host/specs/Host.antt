@@ -1,41 +1,16 @@
--- The calls from C: what each answers, and what it leaves in what it is lent. The numbers are those of 01's refusal list. 43 comes first, as 01 says
--- of the host; of a job it comes after 41 and 42, as in the list. Assumes nothing.
+-- The calls from C that take a job: what each answers, and what it leaves in what it is lent. The numbers are those of 01's refusal list; 43 comes
+-- after 41 and 42, as in the list. (A call that takes an encoding promises what the writer's specification says, `Writes`; there 43 comes first, as
+-- 01 says of the host.) Assumes nothing.
 use Prim.Native.Nat.{ℕ}
 use mathlib.Core.Path.{_≡_}
 use mathlib.Core.List.{List}
 use lib.ListN.{length}
-use Rattle.buffer.specs.Checked.{Checked, then}
-use Rattle.color_encoding.specs.declared.JxlColorEncoding.{JxlColorEncoding}
-use Rattle.writer.specs.PlanOf.{planOf}
-use Rattle.writer.specs.Writer as Writer
-use Rattle.writer.specs.declared.Profile.{Profile}
-use Rattle.writer.specs.declared.Profile.the-variants as P
 use Rattle.job.specs.declared.JobAnswer.{JobAnswer}
 use Rattle.job.specs.declared.JobAnswer.the-variants as A
 use Rattle.job.specs.declared.EntryAnswer.{EntryAnswer}
 use Rattle.job_output.specs.JobOutput.{profileAnswer, profileOutput}
 use Rattle.job_output.specs.declared.JobProfile.{JobProfile}
 use Rattle.job_output.specs.declared.JobProfile.the-variants as J
-
--- ---- the profile of an encoding
-
--- the length, or the refusal
-abbrev pub number : Profile → ℕ
-number (P.Written n) = n
-number (P.Refused k) = k
-
--- for an output of n bytes
-unfoldable pub answered : Checked JxlColorEncoding → ℕ → ℕ
-answered e n = number (Writer.answer (then e planOf) n)
-
--- the output at exit, which held `out` at entry
-unfoldable pub left : Checked JxlColorEncoding → List ℕ → List ℕ
-left e out = Writer.output (then e planOf) out
-
--- the promise of a call that writes
-pub record Writes (e : Checked JxlColorEncoding) (before after : List ℕ) (r : ℕ) : Type 0 where
-  pub answer : r ≡ answered e (length before)
-  pub output : after ≡ left e before
 
 -- ---- a job: how many entries it has
 

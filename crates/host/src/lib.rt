@@ -9,23 +9,26 @@ use color_encoding::RenderingIntent;
 use job::JobAnswer;
 use job_output::JobProfile;
 use writer::Profile;
+ghost use Rattle.buffer.specs.Checked.{then};
 ghost use Rattle.color_encoding.specs.Codes.{whitePointFrom, primariesFrom, transferFunctionFrom, intentFrom};
 ghost use Rattle.color_encoding.specs.Codes.{knownEncoding, grayFrom, rgbFrom, xybFrom};
 ghost use Rattle.job.specs.Job as Job;
 ghost use Rattle.job.specs.Job.{jobAnswer, entryAnswer};
-ghost use Rattle.host.specs.Host.{Writes, CountsEntries, WritesEntry};
+ghost use Rattle.encoding_plan.specs.PlanOf.{planOf};
+ghost use Rattle.writer.specs.Writer.{number, Writes};
+ghost use Rattle.host.specs.Host.{CountsEntries, WritesEntry};
 
 // ---- the profile of an encoding
 
 fn write(code: EncodingCode, out: &mut [u8]) -> u32
-    ensures { λ r. ⌜ Writes (knownEncoding code) (now (out .entry)) (now (out .exit)) r ⌝ }
+    ensures { λ r. ⌜ Writes number (then (knownEncoding code) planOf) (now (out .entry)) (now (out .exit)) r ⌝ }
 {
     match code {
         EncodingCode::Known(encoding) => match writer::maybe_create_profile(encoding, out) {
             Profile::Written(n) => n,
             Profile::Refused(number) => number,
         },
-        EncodingCode::Unknown => 43,
+        EncodingCode::Unknown => color_encoding::UNKNOWN,
     }
 }
 
@@ -39,7 +42,7 @@ pub extern "C" fn merqyduk_write_gray(
     intent: u32,
     out: &mut [u8],
 ) -> u32
-    ensures { λ r. ⌜ Writes (grayFrom (whitePointFrom white wx wy) (transferFunctionFrom curve gamma) (intentFrom intent)) (now (out .entry)) (now (out .exit)) r ⌝ }
+    ensures { λ r. ⌜ Writes number (then (grayFrom (whitePointFrom white wx wy) (transferFunctionFrom curve gamma) (intentFrom intent)) planOf) (now (out .entry)) (now (out .exit)) r ⌝ }
 {
     write(
         JxlColorEncoding::gray_from_codes(
@@ -68,7 +71,7 @@ pub extern "C" fn merqyduk_write_rgb(
     intent: u32,
     out: &mut [u8],
 ) -> u32
-    ensures { λ r. ⌜ Writes (rgbFrom (whitePointFrom white wx wy) (primariesFrom primaries rx ry gx gy bx by) (transferFunctionFrom curve gamma) (intentFrom intent)) (now (out .entry)) (now (out .exit)) r ⌝ }
+    ensures { λ r. ⌜ Writes number (then (rgbFrom (whitePointFrom white wx wy) (primariesFrom primaries rx ry gx gy bx by) (transferFunctionFrom curve gamma) (intentFrom intent)) planOf) (now (out .entry)) (now (out .exit)) r ⌝ }
 {
     write(
         JxlColorEncoding::rgb_from_codes(
@@ -83,7 +86,7 @@ pub extern "C" fn merqyduk_write_rgb(
 
 #[no_mangle]
 pub extern "C" fn merqyduk_write_xyb(intent: u32, out: &mut [u8]) -> u32
-    ensures { λ r. ⌜ Writes (xybFrom (intentFrom intent)) (now (out .entry)) (now (out .exit)) r ⌝ }
+    ensures { λ r. ⌜ Writes number (then (xybFrom (intentFrom intent)) planOf) (now (out .entry)) (now (out .exit)) r ⌝ }
 {
     write(
         JxlColorEncoding::xyb_from_code(RenderingIntent::from_number(intent)),

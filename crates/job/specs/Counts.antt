@@ -6,6 +6,7 @@ use lib.ListN.{length, drop}
 use Rattle.buffer.specs.Checked.{Checked, is, refused, then}
 use Rattle.color_encoding.specs.declared.JxlColorEncoding.{JxlColorEncoding}
 use Rattle.job.specs.Job.{Entry, gray, rgb, xyb, sections, entriesFrom, count, cut, told}
+use Rattle.job.specs.Bounds.{mostEntries, greatestRefusal}
 use Rattle.job.specs.declared.EntryAnswer.{EntryAnswer}
 use Rattle.job.specs.declared.Span.{Span}
 use Rattle.job.specs.declared.Span.the-variants as S
@@ -29,7 +30,7 @@ cutBy l (C.Refused k) = refused k
 -- the sections fill the job; or the number of a refusal
 abbrev pub Filled : List ℕ → Counts → Type 0
 Filled l (C.Whole g r x) = (3 + g * 15 + r * 40 + x ≡ length l) × (g < 256) × (r < 256) × (x < 256)
-Filled l (C.Refused k) = k ≤ 43
+Filled l (C.Refused k) = k ≤ greatestRefusal
 
 pub record Counted (l : List ℕ) (c : Counts) : Type 0 where
   pub by : cut 1 sections l ≡ cutBy l c
@@ -40,7 +41,7 @@ pub record Sized (n : ℕ) (c : Checked (List Entry)) : Type 0 where
   pub entries : List Entry
   pub given : c ≡ is entries
   pub size : length entries ≡ n
-  pub small : n ≤ 765
+  pub small : n ≤ mostEntries
 
 -- an entry at a place of a section, with what its bytes mean
 abbrev pub toldOf : ℕ → ℕ → Checked JxlColorEncoding → EntryAnswer

@@ -8,7 +8,8 @@ use lib.ListN.{length, take, drop, getD, length-append, length-drop}
 use lib.Seq.{drop-drop, drop-cons}
 use Rattle.buffer.specs.Checked.{Checked, is, refused, then}
 use Rattle.color_encoding.specs.declared.JxlColorEncoding.{JxlColorEncoding}
-use Rattle.job.specs.Job.{Section, Entry, gray, rgb, xyb, sections, entriesFrom, count, cut, meaning, told, entryAlone, grayEncoding, rgbEncoding, xybEncoding}
+use Rattle.job_entry.specs.Entry.{grayEncoding, rgbEncoding, xybEncoding}
+use Rattle.job.specs.Job.{Section, Entry, gray, rgb, xyb, sections, entriesFrom, count, endsEarly, bytesLeft, cut, meaning, told, entryAlone}
 use Rattle.job.specs.JobLaws.{cut-whole, cut-early, cut-end, cut-left, length-entriesFrom, in-section, past-section}
 use Rattle.job.specs.Counts.{SpanIs, entriesBy, toldOf}
 use Rattle.job.specs.declared.Span.the-variants as S
@@ -29,17 +30,17 @@ module _ (l : List ℕ) where
       let room : 1 + count 1 (drop at l) * s .size ≤ length (drop at l) = rw (e, length-drop) (omega arith) in
       cut-whole 1 s ss (drop at l) room ∙ rw (e, drop-drop (1 + n * s .size) at l, drop-drop 1 at l, a, b)
 
-  early-section : (s : Section) (ss : List Section) (at : ℕ) → length l < at + (1 + count 1 (drop at l) * s .size) → cut 1 (s ∷ ss) (drop at l) ≡ refused 41
+  early-section : (s : Section) (ss : List Section) (at : ℕ) → length l < at + (1 + count 1 (drop at l) * s .size) → cut 1 (s ∷ ss) (drop at l) ≡ endsEarly
   early-section s ss at h = cut-early 1 s ss (drop at l) (rw length-drop (omega arith))
 
-  pub early-gray : SpanIs l 0 15 S.Early → cut 1 sections l ≡ refused 41
+  pub early-gray : SpanIs l 0 15 S.Early → cut 1 sections l ≡ endsEarly
   early-gray h = early-section gray (rgb ∷ xyb ∷ []) 0 h
 
   module _ (g : ℕ) (a : SpanIs l 0 15 (S.Whole g)) where
     after-gray : cut 1 sections l ≡ then (cut 1 (rgb ∷ xyb ∷ []) (drop (1 + g * 15) l)) (λ es. is (entriesFrom gray 1 g (drop 1 l) ++ es))
     after-gray = at-section gray (rgb ∷ xyb ∷ []) 0 g 1 (1 + g * 15) refl (omega arith) (a .0) (omega arith)
 
-    pub early-rgb : SpanIs l (1 + g * 15) 40 S.Early → cut 1 sections l ≡ refused 41
+    pub early-rgb : SpanIs l (1 + g * 15) 40 S.Early → cut 1 sections l ≡ endsEarly
     early-rgb h = after-gray ∙ rw (early-section rgb (xyb ∷ []) (1 + g * 15) h)
 
     module _ (r : ℕ) (b : SpanIs l (1 + g * 15) 40 (S.Whole r)) where
@@ -47,7 +48,7 @@ module _ (l : List ℕ) where
           ≡ then (cut 1 (xyb ∷ []) (drop (1 + g * 15 + 1 + r * 40) l)) (λ es. is (entriesFrom rgb 1 r (drop (2 + g * 15) l) ++ es))
       after-rgb = at-section rgb (xyb ∷ []) (1 + g * 15) r (2 + g * 15) (1 + g * 15 + 1 + r * 40) (omega arith) (omega arith) (b .0) (omega arith)
 
-      pub early-xyb : SpanIs l (1 + g * 15 + 1 + r * 40) 1 S.Early → cut 1 sections l ≡ refused 41
+      pub early-xyb : SpanIs l (1 + g * 15 + 1 + r * 40) 1 S.Early → cut 1 sections l ≡ endsEarly
       early-xyb h = after-gray ∙ rw (after-rgb, early-section xyb [] (1 + g * 15 + 1 + r * 40) h)
 
       module _ (x : ℕ) (d : SpanIs l (1 + g * 15 + 1 + r * 40) 1 (S.Whole x)) where
@@ -55,7 +56,7 @@ module _ (l : List ℕ) where
             ≡ then (cut 1 [] (drop (3 + g * 15 + r * 40 + x) l)) (λ es. is (entriesFrom xyb 1 x (drop (3 + g * 15 + r * 40) l) ++ es))
         after-xyb = at-section xyb [] (1 + g * 15 + 1 + r * 40) x (3 + g * 15 + r * 40) (3 + g * 15 + r * 40 + x) (omega arith) (omega arith) (d .0) (omega arith)
 
-        pub bytes-left : 3 + g * 15 + r * 40 + x < length l → cut 1 sections l ≡ refused 42
+        pub bytes-left : 3 + g * 15 + r * 40 + x < length l → cut 1 sections l ≡ bytesLeft
         bytes-left h = after-gray ∙ rw (after-rgb, after-xyb, cut-left 1 (drop (3 + g * 15 + r * 40 + x) l) (rw length-drop (omega arith)))
 
         pub all-there : 3 + g * 15 + r * 40 + x ≡ length l → cut 1 sections l ≡ is (entriesBy l g r x)

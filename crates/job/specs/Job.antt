@@ -5,59 +5,14 @@ use mathlib.Core.Bool.{cond}
 use mathlib.Core.List.{List, [], _∷_, _++_, map}
 use lib.Dec.{leb}
 use lib.ListN.{length, take, drop, getD}
-use lib.Ieee.{Float, binary32, ofBits}
 use Rattle.buffer.specs.Checked.{Checked, is, refused, then, each}
-use Rattle.numbers.specs.Words.{word32}
 use Rattle.color_encoding.specs.declared.JxlColorEncoding.{JxlColorEncoding}
-use Rattle.color_encoding.specs.declared.WhitePointCode.{WhitePointCode}
-use Rattle.color_encoding.specs.declared.PrimariesCode.{PrimariesCode}
-use Rattle.color_encoding.specs.declared.TransferFunctionCode.{TransferFunctionCode}
-use Rattle.color_encoding.specs.declared.IntentCode.{IntentCode}
-use Rattle.color_encoding.specs.Codes.{whitePointFrom, primariesFrom, transferFunctionFrom, intentFrom, grayFrom, rgbFrom, xybFrom}
+use Rattle.job_entry.specs.Entry.{grayEncoding, rgbEncoding, xybEncoding}
 use Rattle.job.specs.declared.JobEntry.{JobEntry}
 use Rattle.job.specs.declared.JobAnswer.{JobAnswer}
 use Rattle.job.specs.declared.JobAnswer.the-variants as A
 use Rattle.job.specs.declared.EntryAnswer.{EntryAnswer}
 use Rattle.job.specs.declared.EntryAnswer.the-variants as E
-
--- ---- the fields of an entry, from place i of its bytes on; a byte past the end counts 0
-
-abbrev pub byteAt : List ℕ → ℕ → ℕ
-byteAt b i = getD b i 0
-
--- big-endian f32 bits; every pattern of a NaN is NaN
-abbrev pub floatAt : List ℕ → ℕ → Float
-floatAt b i = ofBits binary32 (word32 (drop i b))
-
--- the kind, then wx, wy
-abbrev pub whiteAt : List ℕ → ℕ → WhitePointCode
-whiteAt b i = whitePointFrom (byteAt b i) (floatAt b (i + 1)) (floatAt b (i + 5))
-
--- the kind, then rx, ry, gx, gy, bx, by
-abbrev pub primariesAt : List ℕ → ℕ → PrimariesCode
-primariesAt b i =
-    primariesFrom (byteAt b i) (floatAt b (i + 1)) (floatAt b (i + 5)) (floatAt b (i + 9)) (floatAt b (i + 13)) (floatAt b (i + 17)) (floatAt b (i + 21))
-
--- the curve, then g
-abbrev pub curveAt : List ℕ → ℕ → TransferFunctionCode
-curveAt b i = transferFunctionFrom (byteAt b i) (floatAt b (i + 1))
-
-abbrev pub intentAt : List ℕ → ℕ → IntentCode
-intentAt b i = intentFrom (byteAt b i)
-
--- ---- the encoding that an entry's bytes mean. 43: a kind, curve or intent has no meaning
-
--- white, curve, intent
-unfoldable pub grayEncoding : List ℕ → Checked JxlColorEncoding
-grayEncoding b = grayFrom (whiteAt b 0) (curveAt b 9) (intentAt b 14)
-
--- white, primaries, curve, intent
-unfoldable pub rgbEncoding : List ℕ → Checked JxlColorEncoding
-rgbEncoding b = rgbFrom (whiteAt b 0) (primariesAt b 9) (curveAt b 34) (intentAt b 39)
-
--- the intent
-unfoldable pub xybEncoding : List ℕ → Checked JxlColorEncoding
-xybEncoding b = xybFrom (intentAt b 0)
 
 -- ---- sections
 
@@ -102,14 +57,21 @@ bigEndian n (b ∷ l) = bigEndian (n * 256 + b) l
 abbrev pub count : ℕ → List ℕ → ℕ
 count w l = bigEndian 0 (take w l)
 
--- 41: the job ends early, in a count or in the entries after it. 42: it has bytes left
+-- 41: the job ends early, in a count or in the entries after it
+abbrev pub endsEarly : {A : Type 0} → Checked A
+endsEarly = refused 41
+
+-- 42: it has bytes left
+abbrev pub bytesLeft : {A : Type 0} → Checked A
+bytesLeft = refused 42
+
 unfoldable pub cut : ℕ → List Section → List ℕ → Checked (List Entry)
 cut w [] [] = is []
-cut w [] (b ∷ l) = refused 42
+cut w [] (b ∷ l) = bytesLeft
 cut w (s ∷ ss) l =
     cond (leb (w + count w l * s .size) (length l))
     (then (cut w ss (drop (w + count w l * s .size) l)) (λ es. is (entriesFrom s 1 (count w l) (drop w l) ++ es)))
-    (refused 41)
+    endsEarly
 
 -- ---- the job
 

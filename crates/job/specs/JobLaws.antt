@@ -9,7 +9,7 @@ use lib.ListN.{length, take, drop, getD}
 use lib.Seq.{drop-drop, take-all}
 use Rattle.buffer.specs.Checked.{Checked, is, refused, then, each}
 use Rattle.buffer.specs.CheckedLaws.{Passes, both, each-cons, each-length}
-use Rattle.job.specs.Job.{Section, Entry, entriesFrom, count, cut, meaning, job, sections, told, jobAnswer, entryAnswer, entryAlone}
+use Rattle.job.specs.Job.{Section, Entry, entriesFrom, count, endsEarly, bytesLeft, cut, meaning, job, sections, told, jobAnswer, entryAnswer, entryAlone}
 use Rattle.job.specs.declared.JobEntry.{JobEntry}
 use Rattle.job.specs.declared.JobAnswer.the-variants as A
 use Rattle.job.specs.declared.EntryAnswer.{EntryAnswer}
@@ -23,7 +23,7 @@ module _ (w : ℕ) (s : Section) (ss : List Section) (l : List ℕ) where
   unfolding cut
   cut-whole h = rw (le-leb _ _ h)
 
-  pub cut-early : length l < w + count w l * s .size → cut w (s ∷ ss) l ≡ refused 41
+  pub cut-early : length l < w + count w l * s .size → cut w (s ∷ ss) l ≡ endsEarly
   unfolding cut
   cut-early h = rw (lt-leb _ _ h)
 
@@ -32,7 +32,7 @@ unfolding cut
 cut-end w [] h = refl
 cut-end w (b ∷ l) h = let no : _≡_ {A = ℕ} 0 1 = omega arith in absurd (omega arith)
 
-pub cut-left : (w : ℕ) (l : List ℕ) → 0 < length l → cut w [] l ≡ refused 42
+pub cut-left : (w : ℕ) (l : List ℕ) → 0 < length l → cut w [] l ≡ bytesLeft
 unfolding cut
 cut-left w [] h = absurd (omega arith)
 cut-left w (b ∷ l) h = refl
@@ -99,7 +99,7 @@ told-is (is e) h = cc
 told-is (refused n) h = absurd (not-refused (sym h))
 
 -- the first entry without a meaning refuses the job
-pub stops : (es : List Entry) (i : ℕ) {k : ℕ} → getD (map alone es) i E.Absent ≡ E.Refused k → Passes (each meaning (take i es)) → each meaning es ≡ refused k
+stops : (es : List Entry) (i : ℕ) {k : ℕ} → getD (map alone es) i E.Absent ≡ E.Refused k → Passes (each meaning (take i es)) → each meaning es ≡ refused k
 stops [] i h p = let zero-one : _≡_ {A = ℕ} 0 1 = cc in absurd (omega arith)
 stops (e ∷ es) zero h p = rw (told-refused (meaning e) h)
 stops (e ∷ es) (suc i) h p =
@@ -108,7 +108,7 @@ stops (e ∷ es) (suc i) h p =
     rw (a .first, stops es i h (record { value = b .value; given = b .first }))
 
 -- an entry with a meaning goes on
-pub goes-on : (es : List Entry) (i : ℕ) {x : JobEntry} → getD (map alone es) i E.Absent ≡ E.Is x → Passes (each meaning (take i es))
+goes-on : (es : List Entry) (i : ℕ) {x : JobEntry} → getD (map alone es) i E.Absent ≡ E.Is x → Passes (each meaning (take i es))
     → Passes (each meaning (take (suc i) es))
 goes-on [] i h p = let zero-one : _≡_ {A = ℕ} 0 1 = cc in absurd (omega arith)
 goes-on (e ∷ es) zero {x} h p = record { value = x ∷ []; given = rw (told-is (meaning e) h) }

@@ -1,8 +1,10 @@
 pub mod Job
+pub mod Bounds
 pub mod Counts
-pub mod Fair
 pub mod JobLaws
 pub mod CountsLaws
-pub mod FairLaws
+pub mod BoundsLaws
 pub mod Longest
-pub mod FairJob
+pub mod LongestLaws
+pub mod JobBounds
+pub mod JobBoundsLaws

@@ -1,35 +1,18 @@
 -- The longest job has 14,283 bytes, so whoever reads a job need not read more than 14,284 bytes: a longer input is refused 42, whatever it holds.
 -- Assumes nothing.
-use Prim.Native.Nat.{ℕ, zero, suc, _+_, _*_, _<_}
+use Prim.Native.Nat.{ℕ, _+_, _*_, _<_}
 use mathlib.Core.Path.{_≡_, refl, sym, _∙_}
 use mathlib.Core.List.{List}
 use native.Mathlib.Omega.{arith}
-use lib.ListN.{length, take, drop, getD}
+use lib.ListN.{length, take, drop}
 use lib.Seq.{length-take-le}
-use Rattle.buffer.specs.All.{All, none, more}
-use Rattle.buffer.specs.Checked.{refused}
-use Rattle.job.specs.Job.{count, job}
+use Rattle.job.specs.Job.{count, bytesLeft, job}
 use Rattle.job.specs.JobLaws.{cut-refused}
-use Rattle.job.specs.CountsLaws.{one-byte, bytes-left}
+use Rattle.job.specs.CountsLaws.{bytes-left}
+use Rattle.job.specs.Bounds.{Bytes}
+use Rattle.job.specs.LongestLaws.{front, small}
 
--- a list of bytes, as a file or a lent slice is
-abbrev pub Bytes : List ℕ → Type 0
-Bytes l = All (λ (b : ℕ). b < 256) l
-
-byte-at : {l : List ℕ} → Bytes l → (i : ℕ) → i < length l → getD l i 0 < 256
-byte-at none i h = absurd (omega arith)
-byte-at (more p ps) zero h = p
-byte-at (more p ps) (suc i) h = byte-at ps i (omega arith)
-
-front : (n : ℕ) {l : List ℕ} → Bytes l → Bytes (take n l)
-front zero b = none
-front (suc n) none = none
-front (suc n) (more p ps) = more p (front n ps)
-
-pub small : (l : List ℕ) → Bytes l → (at : ℕ) → at < length l → count 1 (drop at l) < 256
-small l b at h = rw (one-byte l at h) (byte-at b at h)
-
-pub too-long : (l : List ℕ) → Bytes l → 14283 < length l → job 1 l ≡ refused 42
+pub too-long : (l : List ℕ) → Bytes l → 14283 < length l → job 1 l ≡ bytesLeft
 too-long l b h =
     let g = count 1 l in
     let hg : g < 256 = small l b 0 (omega arith) in

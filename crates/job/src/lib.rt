@@ -2,24 +2,18 @@
 // over all sections. A refused job has no entries.
 
 use color_encoding::EncodingCode;
-use color_encoding::IntentCode;
 use color_encoding::JxlColorEncoding;
-use color_encoding::JxlPrimaries;
-use color_encoding::JxlTransferFunction;
-use color_encoding::JxlWhitePoint;
-use color_encoding::PrimariesCode;
-use color_encoding::RenderingIntent;
-use color_encoding::TransferFunctionCode;
-use color_encoding::WhitePointCode;
+use job_entry::gray_encoding;
+use job_entry::rgb_encoding;
+use job_entry::xyb_encoding;
 ghost use mathlib.Core.Path.{_≡_};
 ghost use Prim.Native.Nat.{_≤_};
 ghost use Rattle.buffer.specs.Checked.{is};
 ghost use Rattle.color_encoding.specs.Codes.{knownEncoding};
 ghost use Rattle.job.specs.Job as Job;
-ghost use Rattle.job.specs.Job.{byteAt, floatAt, whiteAt, primariesAt, curveAt, intentAt, grayEncoding, rgbEncoding, xybEncoding};
 ghost use Rattle.job.specs.Job.{sections, cut, jobAnswer, entryAnswer, entryAlone};
 ghost use Rattle.job.specs.Counts.{SpanIs, Counted, Filled, entriesBy, toldOf, Sized};
-ghost use Rattle.job.specs.Fair.{FairAnswer, FewEntries};
+ghost use Rattle.job.specs.Bounds.{AnswersEntry, AnswersJob};
 
 // An entry of a job: the number of its section (1 gray, 2 RGB, 3 XYB), its place there from 1 on, and what it means.
 pub struct JobEntry {
@@ -53,6 +47,11 @@ enum Counts {
     Refused(u32),
 }
 
+// The refusals of a job that ends early, and of one that has bytes left.
+const ENDS_EARLY: u32 = 41;
+
+const BYTES_LEFT: u32 = 42;
+
 // The bytes of an entry.
 const GRAY_BYTES: usize = 15;
 
@@ -60,87 +59,13 @@ const RGB_BYTES: usize = 40;
 
 const XYB_BYTES: usize = 1;
 
-// ---- the fields of an entry; a byte past its end counts 0
+// The most entries of a section, which a one-byte count tells, and the most bytes of a job (specs/Longest.antt).
+const MOST_IN_SECTION: usize = 255;
 
-fn byte_at(entry: &[u8], at: usize) -> u32
-    ensures { λ r. ⌜ r ≡ byteAt (now (entry .entry)) at ⌝ }
-{
-    if at < entry.len() {
-        entry[at] as u32
-    } else {
-        0
-    }
-}
+pub const MOST_BYTES: usize = 3 + MOST_IN_SECTION * (GRAY_BYTES + RGB_BYTES + XYB_BYTES);
 
-fn float_at(entry: &[u8], at: usize) -> f32
-    ensures { λ r. ⌜ r ≡ floatAt (now (entry .entry)) at ⌝ }
-{
-    numbers::f32_from_bits(numbers::read_u32_be(entry, at))
-}
-
-fn white_at(entry: &[u8], at: usize) -> WhitePointCode
-    requires { ⌜ at ≤ 40 ⌝ }
-    ensures { λ r. ⌜ r ≡ whiteAt (now (entry .entry)) at ⌝ }
-{
-    JxlWhitePoint::from_number(
-        byte_at(entry, at),
-        float_at(entry, at + 1),
-        float_at(entry, at + 5),
-    )
-}
-
-fn primaries_at(entry: &[u8], at: usize) -> PrimariesCode
-    requires { ⌜ at ≤ 40 ⌝ }
-    ensures { λ r. ⌜ r ≡ primariesAt (now (entry .entry)) at ⌝ }
-{
-    JxlPrimaries::from_number(
-        byte_at(entry, at),
-        float_at(entry, at + 1),
-        float_at(entry, at + 5),
-        float_at(entry, at + 9),
-        float_at(entry, at + 13),
-        float_at(entry, at + 17),
-        float_at(entry, at + 21),
-    )
-}
-
-fn curve_at(entry: &[u8], at: usize) -> TransferFunctionCode
-    requires { ⌜ at ≤ 40 ⌝ }
-    ensures { λ r. ⌜ r ≡ curveAt (now (entry .entry)) at ⌝ }
-{
-    JxlTransferFunction::from_number(byte_at(entry, at), float_at(entry, at + 1))
-}
-
-fn intent_at(entry: &[u8], at: usize) -> IntentCode
-    ensures { λ r. ⌜ r ≡ intentAt (now (entry .entry)) at ⌝ }
-{
-    RenderingIntent::from_number(byte_at(entry, at))
-}
-
-// ---- the encoding that an entry's bytes mean
-
-fn gray_encoding(entry: &[u8]) -> EncodingCode
-    ensures { λ r. ⌜ knownEncoding r ≡ grayEncoding (now (entry .entry)) ⌝ }
-{
-    JxlColorEncoding::gray_from_codes(white_at(entry, 0), curve_at(entry, 9), intent_at(entry, 14))
-}
-
-fn rgb_encoding(entry: &[u8]) -> EncodingCode
-    ensures { λ r. ⌜ knownEncoding r ≡ rgbEncoding (now (entry .entry)) ⌝ }
-{
-    JxlColorEncoding::rgb_from_codes(
-        white_at(entry, 0),
-        primaries_at(entry, 9),
-        curve_at(entry, 34),
-        intent_at(entry, 39),
-    )
-}
-
-fn xyb_encoding(entry: &[u8]) -> EncodingCode
-    ensures { λ r. ⌜ knownEncoding r ≡ xybEncoding (now (entry .entry)) ⌝ }
-{
-    JxlColorEncoding::xyb_from_code(intent_at(entry, 0))
-}
+// The most entries of a job.
+pub const MOST_ENTRIES: usize = 3 * MOST_IN_SECTION;
 
 // ---- sections
 
@@ -162,18 +87,18 @@ fn section_counts(job: &[u8]) -> Counts
     ensures { λ r. ⌜ Counted (now (job .entry)) r ⌝ }
 {
     let Span::Whole(gray) = section_at(job, 0, GRAY_BYTES) else {
-        return Counts::Refused(41);
+        return Counts::Refused(ENDS_EARLY);
     };
     let rgb_at = 1 + gray * GRAY_BYTES;
     let Span::Whole(rgb) = section_at(job, rgb_at, RGB_BYTES) else {
-        return Counts::Refused(41);
+        return Counts::Refused(ENDS_EARLY);
     };
     let xyb_at = rgb_at + 1 + rgb * RGB_BYTES;
     let Span::Whole(xyb) = section_at(job, xyb_at, XYB_BYTES) else {
-        return Counts::Refused(41);
+        return Counts::Refused(ENDS_EARLY);
     };
     if xyb_at + 1 + xyb * XYB_BYTES < job.len() {
-        return Counts::Refused(42);
+        return Counts::Refused(BYTES_LEFT);
     }
     Counts::Whole { gray, rgb, xyb }
 }
@@ -190,15 +115,14 @@ fn answered(section: u32, place: usize, code: EncodingCode) -> EntryAnswer
             place: place as u32,
             encoding,
         }),
-        EncodingCode::Unknown => EntryAnswer::Refused(43),
+        EncodingCode::Unknown => EntryAnswer::Refused(color_encoding::UNKNOWN),
     }
 }
 
 // The i-th entry, of a job whose counts are known.
 fn entry_by(job: &[u8], gray: usize, rgb: usize, xyb: usize, i: usize) -> EntryAnswer
     requires { ⌜ Filled (now job) (Counts.Whole gray rgb xyb) ⌝ }
-    ensures { λ r. ⌜ r ≡ entryAlone (is (entriesBy (now (job .entry)) gray rgb xyb)) i ⌝ }
-    ensures { λ r. ⌜ FairAnswer r ⌝ }
+    ensures { λ r. ⌜ AnswersEntry (entryAlone (is (entriesBy (now (job .entry)) gray rgb xyb)) i) r ⌝ }
 {
     if i < gray {
         let at = 1 + i * GRAY_BYTES;
@@ -219,8 +143,7 @@ fn entry_by(job: &[u8], gray: usize, rgb: usize, xyb: usize, i: usize) -> EntryA
 
 // The i-th entry by itself: a job with another entry that has no meaning is not refused here. It costs no walk over the job.
 pub fn entry_alone(job: &[u8], i: usize) -> EntryAnswer
-    ensures { λ r. ⌜ r ≡ entryAlone (cut 1 sections (now (job .entry))) i ⌝ }
-    ensures { λ r. ⌜ FairAnswer r ⌝ }
+    ensures { λ r. ⌜ AnswersEntry (entryAlone (cut 1 sections (now (job .entry))) i) r ⌝ }
 {
     match section_counts(job) {
         Counts::Whole { gray, rgb, xyb } => entry_by(job, gray, rgb, xyb, i),
@@ -233,8 +156,7 @@ pub fn entry_alone(job: &[u8], i: usize) -> EntryAnswer
 // A job of n entries, each looked at in turn.
 fn walk(job: &[u8], n: usize) -> JobAnswer
     requires { ⌜ Sized n (cut 1 sections (now job)) ⌝ }
-    ensures { λ r. ⌜ r ≡ jobAnswer (Job.job 1 (now (job .entry))) ⌝ }
-    ensures { λ r. ⌜ FewEntries r ⌝ }
+    ensures { λ r. ⌜ AnswersJob (jobAnswer (Job.job 1 (now (job .entry)))) r ⌝ }
 {
     let mut i = 0usize;
     while i < n {
@@ -248,8 +170,7 @@ fn walk(job: &[u8], n: usize) -> JobAnswer
 
 // How many entries a job has, or its refusal.
 pub fn entries(job: &[u8]) -> JobAnswer
-    ensures { λ r. ⌜ r ≡ jobAnswer (Job.job 1 (now (job .entry))) ⌝ }
-    ensures { λ r. ⌜ FewEntries r ⌝ }
+    ensures { λ r. ⌜ AnswersJob (jobAnswer (Job.job 1 (now (job .entry)))) r ⌝ }
 {
     match section_counts(job) {
         Counts::Whole { gray, rgb, xyb } => walk(job, gray + rgb + xyb),

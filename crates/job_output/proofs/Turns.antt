@@ -11,10 +11,11 @@ use Rattle.job.specs.Job.{job, cut, sections, entryAlone}
 use Rattle.job.specs.declared.JobEntry.{JobEntry}
 use Rattle.job.specs.declared.EntryAnswer.{EntryAnswer}
 use Rattle.job.specs.declared.EntryAnswer.the-variants.{Is}
-use Rattle.job_output.specs.JobOutput.{partOf, partsOf}
-use Rattle.job_output.specs.Steps.{Good}
+use Rattle.entry_output.specs.EntryOutput.{partOf}
+use Rattle.job_output.specs.JobOutput.{partsOf}
+use Rattle.job_output.specs.Entries.{Entries}
 use Rattle.job_output.specs.PartsLaws.{NextPart, turn}
-use Rattle.job_output.specs.declared.Stream.{Stream}
+use Rattle.entry_output.specs.declared.Stream.{Stream}
 
 is-tag : {a : EntryAnswer} {e : JobEntry} → a ≡ Is e → OneOf (1 ∷ 2 ∷ []) (tagOf Form.the-type a) → ⊥
 is-tag e h = elim (subst (λ (x : EntryAnswer). OneOf (1 ∷ 2 ∷ []) (tagOf Form.the-type x)) e h) [ inl z ↦ omega arith | inr z ↦ omega arith ]
@@ -22,7 +23,7 @@ is-tag e h = elim (subst (λ (x : EntryAnswer). OneOf (1 ∷ 2 ∷ []) (tagOf Fo
 is-one : {a b : JobEntry} → Is a ≡ Is b → a ≡ b
 is-one e = cc
 
-module _ (s : Stream) {l : List ℕ} {n i : ℕ} {a : EntryAnswer} (good : Good l n) (below : i < n) (asked : a ≡ entryAlone (cut 1 sections l) i) where
+module _ (s : Stream) {l : List ℕ} {n i : ℕ} {a : EntryAnswer} (good : Entries l n) (below : i < n) (asked : a ≡ entryAlone (cut 1 sections l) i) where
   pub found : {e : JobEntry} → a ≡ Is e → NextPart (partsOf s (job 1 l)) i (partOf s e)
   found {e} h =
       let t = turn s good i below in

@@ -2,72 +2,29 @@
 use Prim.Native.Nat.{ℕ}
 use mathlib.Core.Path.{_≡_}
 use mathlib.Core.Bool.{cond}
-use mathlib.Core.List.{List, [], _∷_, _++_, map}
+use mathlib.Core.List.{List, [], _++_, map}
 use lib.Dec.{leb}
 use lib.ListN.{length}
-use Rattle.buffer.specs.Ascii.{ascii}
 use Rattle.buffer.specs.Buffer.{put}
 use Rattle.buffer.specs.Checked.{Checked, is, refused}
-use Rattle.decimal.specs.Decimal.{digits}
 use Rattle.profile.specs.TagTypes.{join}
-use Rattle.profile.specs.Plan.{Plan}
-use Rattle.profile.specs.Layout.{layout}
-use Rattle.writer.specs.PlanOf.{planOf}
+use Rattle.encoding_plan.specs.PlanOf.{planOf}
 use Rattle.writer.specs.Writer.{answer, output}
 use Rattle.writer.specs.declared.Profile.{Profile}
 use Rattle.writer.specs.declared.Profile.the-variants as P
 use Rattle.job.specs.Job.{jobAnswer}
 use Rattle.job.specs.declared.JobEntry.{JobEntry}
-use Rattle.job.specs.declared.JobAnswer.{JobAnswer}
-use Rattle.job.specs.declared.JobAnswer.the-variants as A
 use Rattle.job.specs.declared.EntryAnswer.{EntryAnswer}
 use Rattle.job.specs.declared.EntryAnswer.the-variants as E
-use Rattle.job_output.specs.declared.Stream.{Stream}
-use Rattle.job_output.specs.declared.Stream.the-variants as S
+use Rattle.entry_output.specs.EntryOutput.{headOf, partOf}
+use Rattle.entry_output.specs.declared.Stream.{Stream}
+use Rattle.entry_output.specs.declared.Stream.the-variants as S
 use Rattle.job_output.specs.declared.Output.{Output}
 use Rattle.job_output.specs.declared.Output.the-variants as O
 use Rattle.job_output.specs.declared.JobProfile.{JobProfile}
 use Rattle.job_output.specs.declared.JobProfile.the-variants as J
 
--- ---- an entry with enough output
-
--- the length of its profile, or the refusal
-abbrev pub enough : Checked Plan → Profile
-enough (is p) = P.Written (length (layout p))
-enough (refused k) = P.Refused k
-
--- its profile; of a refused entry nothing
-abbrev pub profileBytes : Checked Plan → List ℕ
-profileBytes (is p) = layout p
-profileBytes (refused k) = []
-
--- ---- lines, each with its newline
-
-abbrev newline : List ℕ
-newline = 10 ∷ []
-
-abbrev pub lengthOrRefusal : Profile → List ℕ
-lengthOrRefusal (P.Written n) = digits n
-lengthOrRefusal (P.Refused k) = ascii "refused " ++ digits k
-
--- section, entry from 1, and length or refusal
-unfoldable pub entryLine : JobEntry → List ℕ
-entryLine e = join (digits (e .section) ∷ ascii " " ∷ digits (e .place) ∷ ascii " " ∷ lengthOrRefusal (enough (planOf (e .encoding))) ∷ newline ∷ [])
-
--- the number of entries; of a bad job only its refusal
-unfoldable pub firstLine : JobAnswer → List ℕ
-firstLine (A.Entries n) = join (ascii "profiles " ∷ digits n ∷ newline ∷ [])
-firstLine (A.Refused k) = join (ascii "job refused " ∷ digits k ∷ newline ∷ [])
-
--- ---- the two outputs: what comes first, and what each entry adds
-
-abbrev pub headOf : Stream → JobAnswer → List ℕ
-headOf S.Listing a = firstLine a
-headOf S.Profiles a = []
-
-abbrev pub partOf : Stream → JobEntry → List ℕ
-partOf S.Listing e = entryLine e
-partOf S.Profiles e = profileBytes (planOf (e .encoding))
+-- ---- the two outputs: what comes first, and then what each entry adds
 
 abbrev pub partsOf : Stream → Checked (List JobEntry) → List (List ℕ)
 partsOf s (is es) = map (partOf s) es
@@ -83,10 +40,13 @@ listing j = outputOf S.Listing j
 abbrev pub profiles : Checked (List JobEntry) → List ℕ
 profiles j = outputOf S.Profiles j
 
--- ---- bytes put to the front of an output that is lent; 9 and nothing put where it is shorter
+-- ---- bytes put to the front of an output that is lent; 9, and nothing put, where it is shorter
+
+abbrev pub tooShort : ℕ
+tooShort = 9
 
 pub record Lends (bytes before after : List ℕ) (r : Output) : Type 0 where
-  pub answer : r ≡ cond (leb (length bytes) (length before)) (O.Written (length bytes)) (O.Refused 9)
+  pub answer : r ≡ cond (leb (length bytes) (length before)) (O.Written (length bytes)) (O.Refused tooShort)
   pub output : after ≡ cond (leb (length bytes) (length before)) (put before 0 bytes) before
 
 -- ---- the profile of one entry

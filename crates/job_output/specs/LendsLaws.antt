@@ -7,7 +7,7 @@ use native.Mathlib.Omega.{arith}
 use lib.Dec.{leb}
 use lib.ListN.{length}
 use borrow.Author.Tests.{leb-true}
-use Rattle.job_output.specs.JobOutput.{Lends}
+use Rattle.job_output.specs.JobOutput.{tooShort, Lends}
 use Rattle.job_output.specs.declared.Output.{Output}
 use Rattle.job_output.specs.declared.Output.the-variants.{Written, Refused}
 
@@ -15,6 +15,6 @@ use Rattle.job_output.specs.declared.Output.the-variants.{Written, Refus
 pub fits : {bytes before after : List ℕ} {r : Output} {n : ℕ} → Lends bytes before after r → r ≡ Written n → n ≤ length before
 fits {bytes} {before} {after} {r} {n} l e = go (leb (length bytes) (length before)) refl (sym e ∙ l .answer)
   where
-    go : (b : Bool) → leb (length bytes) (length before) ≡ b → Written n ≡ cond b (Written (length bytes)) (Refused 9) → n ≤ length before
+    go : (b : Bool) → leb (length bytes) (length before) ≡ b → Written n ≡ cond b (Written (length bytes)) (Refused tooShort) → n ≤ length before
     go true t h = let m : n ≡ length bytes = cc in omega (arith, leb-true (length bytes) (length before) t)
     go false t h = let z : _≡_ {A = ℕ} 0 1 = cc in absurd (omega arith)

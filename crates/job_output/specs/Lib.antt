@@ -1,6 +1,6 @@
 pub mod JobOutput
-pub mod Steps
-pub mod OutputLaws
+pub mod Entries
 pub mod PartsLaws
 pub mod Most
+pub mod MostLaws
 pub mod LendsLaws

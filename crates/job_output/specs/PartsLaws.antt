@@ -9,18 +9,20 @@ use borrow.Author.Tests.{le-leb, lt-leb}
 use lib.ListN.{length, take, getD, length-append, length-map}
 use lib.Seq.{take-all}
 use Rattle.buffer.specs.Checked.{Checked, is, refused}
-use Rattle.buffer.specs.Puts.{Puts}
+use Rattle.buffer.specs.Puts.{PutsText}
 use Rattle.profile.specs.TagTypes.{join}
 use Rattle.job.specs.Job.{job, cut, sections, jobAnswer, entryAlone}
-use Rattle.job.specs.Fair.{FewEntries}
+use Rattle.job.specs.Bounds.{JobAnswerBounds}
 use Rattle.job.specs.JobLaws.{alone-is}
 use Rattle.job.specs.declared.JobEntry.{JobEntry}
 use Rattle.job.specs.declared.JobAnswer.{JobAnswer}
 use Rattle.job.specs.declared.JobAnswer.the-variants as A
 use Rattle.job.specs.declared.EntryAnswer.the-variants as E
-use Rattle.job_output.specs.JobOutput.{headOf, partOf, partsOf, outputOf, Lends}
-use Rattle.job_output.specs.Steps.{Good, SmallAnswer}
-use Rattle.job_output.specs.declared.Stream.{Stream}
+use Rattle.entry_output.specs.EntryOutput.{headOf, partOf}
+use Rattle.job_output.specs.JobOutput.{tooShort, partsOf, outputOf, Lends}
+use Rattle.entry_output.specs.Steps.{SmallAnswer}
+use Rattle.job_output.specs.Entries.{Entries}
+use Rattle.entry_output.specs.declared.Stream.{Stream}
 use Rattle.job_output.specs.declared.Output.the-variants as O
 
 -- ---- parts
@@ -65,7 +67,7 @@ pub record Turn (s : Stream) (l : List ℕ) (i : ℕ) : Type 0 where
   pub alone : entryAlone (cut 1 sections l) i ≡ E.Is entry
   pub next : NextPart (partsOf s (job 1 l)) i (partOf s entry)
 
-module _ (s : Stream) {l : List ℕ} {n : ℕ} (good : Good l n) where
+module _ (s : Stream) {l : List ℕ} {n : ℕ} (good : Entries l n) where
   parts : partsOf s (job 1 l) ≡ map (partOf s) (good .entries)
   parts = rw (good .given)
 
@@ -86,14 +88,14 @@ module _ (s : Stream) {l : List ℕ} {n : ℕ} (good : Good l n) where
 
 -- ---- the answer of a job
 
-pub few-small : (a : JobAnswer) → FewEntries a → SmallAnswer a
+pub few-small : (a : JobAnswer) → JobAnswerBounds a → SmallAnswer a
 few-small (A.Entries n) h = omega arith
 few-small (A.Refused k) h = omega arith
 
-pub good-job : {l : List ℕ} {a : JobAnswer} {n : ℕ} → a ≡ jobAnswer (job 1 l) → FewEntries a → a ≡ A.Entries n → Good l n
+pub good-job : {l : List ℕ} {a : JobAnswer} {n : ℕ} → a ≡ jobAnswer (job 1 l) → JobAnswerBounds a → a ≡ A.Entries n → Entries l n
 good-job {l} {a} {n} told few h = go (job 1 l) refl (sym told ∙ h)
   where
-    go : (j : Checked (List JobEntry)) → job 1 l ≡ j → jobAnswer j ≡ A.Entries n → Good l n
+    go : (j : Checked (List JobEntry)) → job 1 l ≡ j → jobAnswer j ≡ A.Entries n → Entries l n
     go (is xs) e g = record { entries = xs; given = e; size = cc; small = rw h at few }
     go (refused k) e g = let zero-one : _≡_ {A = ℕ} 0 1 = cc in absurd (omega arith)
 
@@ -117,12 +119,12 @@ module _ (l : List ℕ) (s : Stream) {a : JobAnswer} (told : a ≡ jobAnswer (jo
 -- ---- an output that is lent
 
 module _ (bytes before : List ℕ) where
-  pub lends-nothing : length before < length bytes → Lends bytes before before (O.Refused 9)
+  pub lends-nothing : length before < length bytes → Lends bytes before before (O.Refused tooShort)
   lends-nothing h =
       let short = lt-leb (length bytes) (length before) h in
       record { answer = rw short; output = rw short }
 
-  pub lends : {r : ℕ} {after : List ℕ} → length bytes ≤ length before → Puts before 0 bytes r after → Lends bytes before after (O.Written r)
+  pub lends : {r : ℕ} {after : List ℕ} → length bytes ≤ length before → PutsText before 0 bytes r after → Lends bytes before after (O.Written r)
   lends h p =
       let whole = le-leb (length bytes) (length before) h in
       record { answer = rw whole (ap O.Written (p .place ∙ zero-add (length bytes))); output = rw whole (p .bytes) }

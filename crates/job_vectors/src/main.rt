@@ -1,24 +1,17 @@
 // Replays the list of jobs, the file `jobs` of data/: counts its records, and how many of them the crates answer as the list says.
 // The list holds the answers of the original Rust; differential/README.md says how it was made and what a record holds. A list that is missing, that
 // begins otherwise or that has a malformed record shows in what is printed.
+use entry_output::MOST_PROFILE;
 use job::EntryAnswer;
 use job::JobAnswer;
+use job::MOST_BYTES;
 use job_output::JobProfile;
+use job_output::MOST_LISTING;
+use job_output::MOST_PROFILES;
 use job_output::Output;
 use libc::STDOUT_FILENO;
 ghost use mathlib.Core.Path.{_≡_};
 ghost use lib.ListN.{length};
-
-// The longest job has 3 + 255 * (15 + 40 + 1) bytes.
-const MOST_JOB: usize = 14283;
-
-// The longest listing has a first line of 13 bytes (`profiles 765`) and 765 others of 16 (`2 255 refused 7`).
-const MOST_LISTING: usize = 13 + 765 * 16;
-
-// The longest profile, and the longest profiles of a job.
-const MOST_PROFILE: usize = 1200;
-
-const MOST_PROFILES: usize = 765 * MOST_PROFILE;
 
 // What an output holds before it is lent.
 const UNTOUCHED: u8 = 165;
@@ -164,10 +157,10 @@ fn begun(list: i32) -> bool {
 
 // Reads a job in hexadecimal, and the end of its line.
 fn spelled(list: i32, job: &mut [u8]) -> bool {
-    let mut digits = [0u8; 2 * MOST_JOB];
+    let mut digits = [0u8; 2 * MOST_BYTES];
     let mut end = [0u8; 1];
     let n = job.len();
-    if MOST_JOB < n {
+    if MOST_BYTES < n {
         return false;
     }
     filled(list, lent(&mut digits, 2 * n))
@@ -507,7 +500,7 @@ fn compare(
 // Reads a record and compares it; whether there was one.
 fn turn(list: i32, record: u64, all: &mut [u8], tally: &mut [u64]) -> bool {
     let mut line = [0u8; 56];
-    let mut job = [0u8; MOST_JOB];
+    let mut job = [0u8; MOST_BYTES];
     let mut text = [0u8; MOST_LISTING];
     match read_record(list, &mut line, &mut job, &mut text) {
         Next::Record(lengths) => {

@@ -1,16 +1,14 @@
 // Reads a job on standard input and writes its accepted profiles, one after another; of a refused job nothing.
+use job_output::MOST_PROFILES;
 use job_output::Output;
 use libc::STDIN_FILENO;
 use libc::STDOUT_FILENO;
 ghost use mathlib.Core.Path.{_≡_};
 ghost use lib.ListN.{length};
 
-// One byte more than the longest job has, 3 + 255 * (15 + 40 + 1): of a longer input no more need be read, since it is refused 42 whatever it holds
+// One byte more than the longest job has: of a longer input no more need be read, since it is refused 42 whatever it holds
 // (crates/job/specs/Longest.antt).
-const MOST_READ: usize = 14284;
-
-// No job has more (crates/job_output/specs/Most.antt), so the output is never refused: at most 765 profiles, each of at most 1,200 bytes.
-const MOST_PROFILES: usize = 765 * 1200;
+const MOST_READ: usize = job::MOST_BYTES + 1;
 
 // The `ensures` gives only the length, so that no proof spells the zeros out.
 fn room() -> [u8; MOST_PROFILES]

@@ -268,7 +268,7 @@ fn primaries(line: &[u8], at: usize) -> PrimariesXy
 fn adapted(line: &[u8]) -> bool {
     let mut m = [[0.0f32; 3]; 3];
     let status = number(line, 16, 1);
-    match colorimetry::create_icc_chad_matrix(white(line, 0), &mut m) {
+    match colorimetry::chad_matrix(white(line, 0), &mut m) {
         Adaptation::Adapted => status == 0 && holds(line, 17, m),
         Adaptation::InvalidWhitePoint => status == 4,
     }

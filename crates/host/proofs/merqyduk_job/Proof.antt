@@ -14,10 +14,10 @@ enum-known-number : tie.Need-enum-known-number
 enum-known-number c = search needs
 
 returns : tie.Need-returns
-returns c = rw (sym (c .before .before .before .entries .ensures .0) ∙ c .before .n .given .1) (record { answer = refl; entries = refl })
+returns c = rw (sym (c .before .before .before .entries .ensures .answer) ∙ c .before .n .given .1) (record { answer = refl; entries = refl })
 
 returns-2 : tie.Need-returns-2
-returns-2 c = rw (sym (c .before .before .before .entries .ensures .0) ∙ c .before .number .given .1) (record { answer = refl; entries = refl })
+returns-2 c = rw (sym (c .before .before .before .entries .ensures .answer) ∙ c .before .number .given .1) (record { answer = refl; entries = refl })
 
 pub merqyduk-job-spec : {M : Type 1} → statement M
 merqyduk-job-spec =

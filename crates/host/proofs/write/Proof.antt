@@ -1,6 +1,6 @@
 -- The number of what the writer answers, or 43 for a code without meaning. Assumes nothing.
 use mathlib.Core.Path.{refl, sym, ap, _∙_}
-use Rattle.host.specs.Host.{number, answered, left}
+use Rattle.writer.specs.Writer.{number}
 use borrow.Author.Needs.{needs}
 use Rattle.host.proofs.write.Statement.{statement}
 use Rattle.host.proofs.write.Tie as tie
@@ -24,24 +24,21 @@ same-length : tie.Need-same-length
 same-length c = search needs
 
 returns : tie.Need-returns
-unfolding answered left
 returns c =
     let call = c .before .before .before .before .before in
     rw (call .before .before .before .code .given .1)
-    (record { answer = ap number (sym (c .before .n .given .1) ∙ call .maybe-create-profile .ensures .0); output = call .maybe-create-profile .ensures .1 })
+    (record { answer = ap number (sym (c .before .n .given .1) ∙ call .maybe-create-profile .ensures .answer); output = call .maybe-create-profile .ensures .output })
 
 same-length-2 : tie.Need-same-length-2
 same-length-2 c = search needs
 
 returns-2 : tie.Need-returns-2
-unfolding answered left
 returns-2 c =
     let call = c .before .before .before .before .before in
     rw (call .before .before .before .code .given .1)
-    (record { answer = ap number (sym (c .before .number .given .1) ∙ call .maybe-create-profile .ensures .0); output = call .maybe-create-profile .ensures .1 })
+    (record { answer = ap number (sym (c .before .number .given .1) ∙ call .maybe-create-profile .ensures .answer); output = call .maybe-create-profile .ensures .output })
 
 returns-3 : tie.Need-returns-3
-unfolding answered left
 returns-3 c = rw (c .enum-told .given .1) (record { answer = refl; output = refl })
 
 pub write-spec : {M : Type 1} → statement M

@@ -46,7 +46,7 @@ returns : tie.Need-returns
 returns c = search needs
 
 returns-2 : tie.Need-returns-2
-returns-2 c = (sym (ap jobAnswer (cut-refused 1 (c .before .before .before .before .before .args .job .now) (c .before .before .before .section-counts .ensures .by ∙ ap (cutBy (c .before .before .before .before .before .args .job .now)) (c .before .number .given .1)))), rw (c .before .number .given .1) at (c .before .before .before .section-counts .ensures .filled))
+returns-2 c = record { answer = sym (ap jobAnswer (cut-refused 1 (c .before .before .before .before .before .args .job .now) (c .before .before .before .section-counts .ensures .by ∙ ap (cutBy (c .before .before .before .before .before .args .job .now)) (c .before .number .given .1)))); bounds = rw (c .before .number .given .1) at (c .before .before .before .section-counts .ensures .filled) }
 
 pub entries-spec : {M : Type 1} → statement M
 entries-spec =

@@ -19,10 +19,10 @@ enum-known-number : tie.Need-enum-known-number
 enum-known-number c = search needs
 
 returns : tie.Need-returns
-returns c = c .entry-alone .ensures .0 ∙ entry-of 1 (c .before .before .before .before .before .args .job .now) (sym (c .before .before .before .entries .ensures .0) ∙ c .before .enum-told .given .1) (c .before .before .before .before .before .args .i)
+returns c = c .entry-alone .ensures .answer ∙ entry-of 1 (c .before .before .before .before .before .args .job .now) (sym (c .before .before .before .entries .ensures .answer) ∙ c .before .enum-told .given .1) (c .before .before .before .before .before .args .i)
 
 returns-2 : tie.Need-returns-2
-returns-2 c = sym (refused-entry (job 1 (c .before .before .before .before .before .args .job .now)) (c .before .before .before .before .before .args .i) (sym (c .before .before .before .entries .ensures .0) ∙ c .before .number .given .1))
+returns-2 c = sym (refused-entry (job 1 (c .before .before .before .before .before .args .job .now)) (c .before .before .before .before .before .args .i) (sym (c .before .before .before .entries .ensures .answer) ∙ c .before .number .given .1))
 
 pub entry-spec : {M : Type 1} → statement M
 entry-spec =

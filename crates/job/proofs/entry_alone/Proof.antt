@@ -22,11 +22,11 @@ enum-known-number c = search needs
 
 returns : tie.Need-returns
 unfolding entryAlone
-returns c = (c .entry-by .ensures .0 ∙ sym (ap (λ (e : Checked (List Entry)). entryAlone e (c .before .before .before .before .before .before .args .i)) (c .before .before .before .before .section-counts .ensures .by ∙ ap (cutBy (c .before .before .before .before .before .before .args .job .now)) (c .before .before .gray .given .1))), c .entry-by .ensures .1)
+returns c = record { answer = c .entry-by .ensures .answer ∙ sym (ap (λ (e : Checked (List Entry)). entryAlone e (c .before .before .before .before .before .before .args .i)) (c .before .before .before .before .section-counts .ensures .by ∙ ap (cutBy (c .before .before .before .before .before .before .args .job .now)) (c .before .before .gray .given .1))); bounds = c .entry-by .ensures .bounds }
 
 returns-2 : tie.Need-returns-2
 unfolding entryAlone
-returns-2 c = (sym (ap (λ (e : Checked (List Entry)). entryAlone e (c .before .before .before .before .before .args .i)) (c .before .before .before .section-counts .ensures .by ∙ ap (cutBy (c .before .before .before .before .before .args .job .now)) (c .before .number .given .1))), rw (c .before .number .given .1) at (c .before .before .before .section-counts .ensures .filled))
+returns-2 c = record { answer = sym (ap (λ (e : Checked (List Entry)). entryAlone e (c .before .before .before .before .before .args .i)) (c .before .before .before .section-counts .ensures .by ∙ ap (cutBy (c .before .before .before .before .before .args .job .now)) (c .before .number .given .1))); bounds = rw (c .before .number .given .1) at (c .before .before .before .section-counts .ensures .filled) }
 
 pub entry-alone-spec : {M : Type 1} → statement M
 entry-alone-spec =

@@ -2,8 +2,8 @@
 use Prim.Native.Nat.{_+_, _*_, _-_}
 use mathlib.Core.Path.{sym, _∙_}
 use native.Mathlib.Omega.{arith}
-use Rattle.job.specs.Job.{grayEncoding, rgbEncoding, xybEncoding}
-use Rattle.job.specs.FairJob.{fair-entry}
+use Rattle.job_entry.specs.Entry.{grayEncoding, rgbEncoding, xybEncoding}
+use Rattle.job.specs.JobBoundsLaws.{answers-entry}
 use Rattle.job.specs.CountsLaws.{told-part, in-gray, in-rgb, in-xyb, past-all}
 use borrow.Author.Needs.{needs}
 use Rattle.job.proofs.entry_by.Statement.{statement}
@@ -44,7 +44,7 @@ returns c =
     let r = start .args .rgb in
     let x = start .args .xyb in
     let i = start .args .i in
-    fair-entry l g r x i (start .pre) (told-part 1 (i + 1) (1 + i * 15) 15 grayEncoding l (c .answered .ensures) (c .before .gray-encoding .ensures) ∙ sym (in-gray l g r x i (omega arith)))
+    answers-entry l g r x i (start .pre) (told-part 1 (i + 1) (1 + i * 15) 15 grayEncoding l (c .answered .ensures) (c .before .gray-encoding .ensures) ∙ sym (in-gray l g r x i (omega arith)))
 
 mul-at-2 : tie.Need-mul-at-2
 mul-at-2 c = search needs
@@ -87,7 +87,7 @@ returns-2 c =
     let r = start .args .rgb in
     let x = start .args .xyb in
     let i = start .args .i in
-    fair-entry l g r x i (start .pre) (told-part 2 (i - g + 1) (2 + g * 15 + (i - g) * 40) 40 rgbEncoding l (c .answered2 .ensures) (c .before .rgb-encoding .ensures) ∙ sym (in-rgb l g r x i (omega arith) (omega arith)))
+    answers-entry l g r x i (start .pre) (told-part 2 (i - g + 1) (2 + g * 15 + (i - g) * 40) 40 rgbEncoding l (c .answered2 .ensures) (c .before .rgb-encoding .ensures) ∙ sym (in-rgb l g r x i (omega arith) (omega arith)))
 
 mul-at-4 : tie.Need-mul-at-4
 mul-at-4 c = search needs
@@ -136,12 +136,12 @@ returns-3 c =
     let r = start .args .rgb in
     let x = start .args .xyb in
     let i = start .args .i in
-    fair-entry l g r x i (start .pre) (told-part 3 (i - g - r + 1) (3 + g * 15 + r * 40 + (i - g - r) * 1) 1 xybEncoding l (c .answered3 .ensures) (c .before .xyb-encoding .ensures) ∙ sym (in-xyb l g r x i (omega arith) (omega arith) (omega arith)))
+    answers-entry l g r x i (start .pre) (told-part 3 (i - g - r + 1) (3 + g * 15 + r * 40 + (i - g - r) * 1) 1 xybEncoding l (c .answered3 .ensures) (c .before .xyb-encoding .ensures) ∙ sym (in-xyb l g r x i (omega arith) (omega arith) (omega arith)))
 
 returns-4 : tie.Need-returns-4
 returns-4 c =
     let start = c .before .before .before .before .args in
-    fair-entry (start .job .now) (start .gray) (start .rgb) (start .xyb) (start .i) (c .before .before .before .before .pre)
+    answers-entry (start .job .now) (start .gray) (start .rgb) (start .xyb) (start .i) (c .before .before .before .before .pre)
     (sym (past-all (start .job .now) (start .gray) (start .rgb) (start .xyb) (start .i) (omega arith) (omega arith) (omega arith)))
 
 pub entry-by-spec : {M : Type 1} → statement M

@@ -45,8 +45,8 @@ returns : tie.Need-returns Inv-loop μ-loop
 returns c =
     let start = c .before .before .before .before .before .before .before in
     let k = c .before .number .given .0 .0 in
-    let found = sym (c .before .before .before .entry-alone .ensures .0) ∙ c .before .number .given .1 in
-    (sym (ap jobAnswer (walk-stops 1 (start .args .job .now) (start .pre .entries) (start .pre .given) (c .before .before .before .before .before .loop .i) k found (c .before .before .before .before .before .loop .inv .1 (start .pre .entries) (start .pre .given)))), rw (c .before .number .given .1) at (c .before .before .before .entry-alone .ensures .1))
+    let found = sym (c .before .before .before .entry-alone .ensures .answer) ∙ c .before .number .given .1 in
+    record { answer = sym (ap jobAnswer (walk-stops 1 (start .args .job .now) (start .pre .entries) (start .pre .given) (c .before .before .before .before .before .loop .i) k found (c .before .before .before .before .before .loop .inv .1 (start .pre .entries) (start .pre .given)))); bounds = rw (c .before .number .given .1) at (c .before .before .before .entry-alone .ensures .bounds) }
 
 add-i : tie.Need-add-i Inv-loop μ-loop
 add-i c = omega arith
@@ -59,7 +59,7 @@ loop-again c =
     let start = c .before .before .before .before .before in
     let l = start .args .job .now in
     let i = c .before .before .before .loop .i in
-    let not-refused : (k : ℕ) → entryAlone (cut 1 sections l) i ≡ Refused k → ⊥ = λ k e. refused-tag (c .before .entry-alone .ensures .0 ∙ e) (c .match .keys2) in
+    let not-refused : (k : ℕ) → entryAlone (cut 1 sections l) i ≡ Refused k → ⊥ = λ k e. refused-tag (c .before .entry-alone .ensures .answer ∙ e) (c .match .keys2) in
     (omega arith, λ es cuts. rw (add-one i) (walk-goes-on 1 l es cuts i (omega (arith, start .pre .size, ap length (is-one (sym (start .pre .given) ∙ cuts)))) not-refused (c .before .before .before .loop .inv .1 es cuts)))
 
 cast-t7 : tie.Need-cast-t7 Inv-loop μ-loop
@@ -71,7 +71,7 @@ returns-2 c =
     let i = c .before .loop .i in
     let all : i ≡ start .args .n = omega arith in
     let passes : Passes (each meaning (take (start .args .n) (start .pre .entries))) = rw (← all) (c .before .loop .inv .1 (start .pre .entries) (start .pre .given)) in
-    (sym (walk-ends 1 (start .args .job .now) (start .pre .entries) (start .pre .given) (start .args .n) (start .pre .size) passes), start .pre .small)
+    record { answer = sym (walk-ends 1 (start .args .job .now) (start .pre .entries) (start .pre .given) (start .args .n) (start .pre .size) passes); bounds = start .pre .small }
 
 pub walk-spec : {M : Type 1} → statement M
 walk-spec =

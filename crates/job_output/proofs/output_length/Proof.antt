@@ -11,7 +11,7 @@ entries-requires : tie.Need-entries-requires
 entries-requires c κs = search needs
 
 head-requires : tie.Need-head-requires
-head-requires c κs = few-small (c .entries .result) (c .entries .ensures .1)
+head-requires c κs = few-small (c .entries .result) (c .entries .ensures .bounds)
 
 enum-known-answer : tie.Need-enum-known-answer
 enum-known-answer c = search needs
@@ -20,7 +20,7 @@ cast-parts-length : tie.Need-cast-parts-length
 cast-parts-length c = search needs
 
 parts-length-requires : tie.Need-parts-length-requires
-parts-length-requires c κs = let told = c .before .before .before .before .entries .ensures in good-job (told .0) (told .1) (c .before .answer .given .1)
+parts-length-requires c κs = let told = c .before .before .before .before .entries .ensures in good-job (told .answer) (told .bounds) (c .before .answer .given .1)
 
 add-result : tie.Need-add-result
 add-result c = search needs
@@ -32,13 +32,13 @@ returns : tie.Need-returns
 returns c =
     let head = c .before .before .before .before .before in
     let start = head .before .before .before in
-    omega (arith, length-output (start .args .job .now) (start .args .stream) (head .before .entries .ensures .0), head .head .ensures .len, c .before .parts-length .ensures .0)
+    omega (arith, length-output (start .args .job .now) (start .args .stream) (head .before .entries .ensures .answer), head .head .ensures .len, c .before .parts-length .ensures .count)
 
 returns-2 : tie.Need-returns-2
 returns-2 c =
     let head = c .before .before in
     let start = head .before .before .before in
-    head .head .ensures .len ∙ sym (ap length (refused-output (start .args .job .now) (start .args .stream) (head .before .entries .ensures .0) (c .enum-told .given .1)))
+    head .head .ensures .len ∙ sym (ap length (refused-output (start .args .job .now) (start .args .stream) (head .before .entries .ensures .answer) (c .enum-told .given .1)))
 
 pub output-length-spec : {M : Type 1} → statement M
 output-length-spec =

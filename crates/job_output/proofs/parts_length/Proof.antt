@@ -30,7 +30,7 @@ enum-known-entry : tie.Need-enum-known-entry Inv-loop μ-loop
 enum-known-entry c = search needs
 
 part-length-requires : tie.Need-part-length-requires Inv-loop μ-loop
-part-length-requires c κs = rw (c .before .entry .given .1) at (c .before .before .before .entry-alone .ensures .1)
+part-length-requires c κs = rw (c .before .entry .given .1) at (c .before .before .before .entry-alone .ensures .bounds)
 
 add-total : tie.Need-add-total Inv-loop μ-loop
 add-total c = omega arith
@@ -45,18 +45,18 @@ loop-again : tie.Need-loop-again Inv-loop μ-loop
 loop-again c =
     let start = c .before .before .before .before .before in
     let below = c .before .before .loop-test .taken in
-    let asked = c .before .entry-alone .ensures .0 in
+    let asked = c .before .entry-alone .ensures .answer in
     ⊎-elim
     (λ w.
     let next = found (start .args .stream) (start .pre) below asked (w .1 .given .1) in
-    omega (arith, simp length-append at (ap length (next .more)), w .3 .ensures .0, w .3 .ensures .1, w .4))
+    omega (arith, simp length-append at (ap length (next .more)), w .3 .ensures .count, w .3 .ensures .most, w .4))
     (λ w. absurd (no-other (start .args .stream) (start .pre) below asked (w .0 .keys2)))
     (c .match .came)
 
 returns : tie.Need-returns Inv-loop μ-loop
 returns c =
     let start = c .before .before .before in
-    (c .before .loop .inv .1 ∙ ap length (all-parts (start .args .stream) (start .pre) (c .before .loop .i) (c .loop-test .left)), omega arith)
+    record { count = c .before .loop .inv .1 ∙ ap length (all-parts (start .args .stream) (start .pre) (c .before .loop .i) (c .loop-test .left)); most = omega arith }
 
 pub parts-length-spec : {M : Type 1} → statement M
 parts-length-spec =

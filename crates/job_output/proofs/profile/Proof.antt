@@ -38,8 +38,8 @@ returns c =
     let found = sym (c .before .before .before .before .before .before .before .before .before .before .entry .ensures) ∙ c .before .before .before .before .before .before .before .before .entry2 .given .1 in
     let call = c .before .before .before .before .before .maybe-create-profile .ensures in
     record {
-      answer = sym (ap (λ (a : EntryAnswer). profileAnswer a (length out)) found ∙ ap fromWriter (sym (call .0) ∙ c .before .n .given .1));
-      output = call .1 ∙ sym (ap (λ (a : EntryAnswer). profileOutput a out) found);
+      answer = sym (ap (λ (a : EntryAnswer). profileAnswer a (length out)) found ∙ ap fromWriter (sym (call .answer) ∙ c .before .n .given .1));
+      output = call .output ∙ sym (ap (λ (a : EntryAnswer). profileOutput a out) found);
     }
 
 same-length-2 : tie.Need-same-length-2
@@ -52,8 +52,8 @@ returns-2 c =
     let found = sym (c .before .before .before .before .before .before .before .before .before .before .entry .ensures) ∙ c .before .before .before .before .before .before .before .before .entry2 .given .1 in
     let call = c .before .before .before .before .before .maybe-create-profile .ensures in
     record {
-      answer = sym (ap (λ (a : EntryAnswer). profileAnswer a (length out)) found ∙ ap fromWriter (sym (call .0) ∙ c .before .k .given .1));
-      output = call .1 ∙ sym (ap (λ (a : EntryAnswer). profileOutput a out) found);
+      answer = sym (ap (λ (a : EntryAnswer). profileAnswer a (length out)) found ∙ ap fromWriter (sym (call .answer) ∙ c .before .k .given .1));
+      output = call .output ∙ sym (ap (λ (a : EntryAnswer). profileOutput a out) found);
     }
 
 returns-3 : tie.Need-returns-3

@@ -1,10 +1,10 @@
 -- What comes first, and then the parts; of a refused job there are none. Assumes nothing.
 use mathlib.Core.Path.{sym}
 use native.Mathlib.Omega.{arith}
-use Rattle.buffer.specs.Puts.{Puts}
+use Rattle.buffer.specs.Puts.{PutsText}
 use Rattle.buffer.specs.PutsLaws.{then, same}
-use Rattle.job_output.specs.JobOutput.{headOf}
-use Rattle.job_output.specs.OutputLaws.{line-room, line-text}
+use Rattle.entry_output.specs.EntryOutput.{headOf}
+use Rattle.entry_output.specs.EntryOutputLaws.{line-room, line-text}
 use Rattle.job_output.specs.PartsLaws.{few-small, good-job, output-is, length-output, refused-output}
 use borrow.Author.Needs.{needs}
 use Rattle.job_output.proofs.put_output.Statement.{statement}
@@ -14,18 +14,18 @@ entries-requires : tie.Need-entries-requires
 entries-requires c κs = search needs
 
 head-requires : tie.Need-head-requires
-head-requires c κs = few-small (c .before .entries .result) (c .before .entries .ensures .1)
+head-requires c κs = few-small (c .before .entries .result) (c .before .entries .ensures .bounds)
 
 put-line-requires : tie.Need-put-line-requires
 put-line-requires c κs =
     let start = c .before .before .before .before .before in
-    (line-room (c .head .ensures), omega (arith, length-output (start .args .job .now) (start .args .stream) (c .before .before .entries .ensures .0), c .head .ensures .len, start .pre))
+    (line-room (c .head .ensures), omega (arith, length-output (start .args .job .now) (start .args .stream) (c .before .before .entries .ensures .answer), c .head .ensures .len, start .pre))
 
 abbrev start : tie.After-put-line → tie.Start
 start c = c .before .before .before .before .before .before
 
 -- what comes first is put
-headed : (c : tie.After-put-line) → Puts (start c .args .out .now) 0 (headOf (start c .args .stream) (c .before .before .before .entries .result)) (c .put-line .result) (c .put-line .last .0)
+headed : (c : tie.After-put-line) → PutsText (start c .args .out .now) 0 (headOf (start c .args .stream) (c .before .before .before .entries .result)) (c .put-line .result) (c .put-line .last .0)
 headed c = same _ (c .put-line .ensures) (sym (line-text (c .before .head .ensures)))
 
 enum-known-answer : tie.Need-enum-known-answer
@@ -38,8 +38,8 @@ put-parts-requires : tie.Need-put-parts-requires
 put-parts-requires c κs =
     let d = c .before .before .before .before .before .before in
     let told = d .before .before .before .entries .ensures in (
-      good-job (told .0) (told .1) (c .before .before .answer .given .1),
-      omega (arith, headed d .place, length-output (start d .args .job .now) (start d .args .stream) (told .0), start d .pre, d .put-line .kept .0),
+      good-job (told .answer) (told .bounds) (c .before .before .answer .given .1),
+      omega (arith, headed d .place, length-output (start d .args .job .now) (start d .args .stream) (told .answer), start d .pre, d .put-line .kept .0),
     )
 
 enum-told : tie.Need-enum-told
@@ -51,7 +51,7 @@ same-length c = search needs
 returns : tie.Need-returns
 returns c =
     let d = c .before .before .before .before .before .before .before .before .before in
-    then _ (omega arith) (headed d) (c .before .before .put-parts .ensures) (output-is (start d .args .job .now) (start d .args .stream) (d .before .before .before .entries .ensures .0))
+    then _ (omega arith) (headed d) (c .before .before .put-parts .ensures) (output-is (start d .args .job .now) (start d .args .stream) (d .before .before .before .entries .ensures .answer))
 
 same-length-2 : tie.Need-same-length-2
 same-length-2 c = search needs
@@ -59,7 +59,7 @@ same-length-2 c = search needs
 returns-2 : tie.Need-returns-2
 returns-2 c =
     let d = c .before .before .before .before in
-    same _ (headed d) (refused-output (start d .args .job .now) (start d .args .stream) (d .before .before .before .entries .ensures .0) (c .enum-told .given .1))
+    same _ (headed d) (refused-output (start d .args .job .now) (start d .args .stream) (d .before .before .before .entries .ensures .answer) (c .enum-told .given .1))
 
 pub put-output-spec : {M : Type 1} → statement M
 put-output-spec =

@@ -5,7 +5,7 @@ use mathlib.Core.Logic.{⊎-elim}
 use native.Mathlib.Omega.{arith}
 use lib.ListN.{length, take}
 use borrow.Author.Needs.{needs}
-use Rattle.buffer.specs.Puts.{Puts}
+use Rattle.buffer.specs.Puts.{PutsText}
 use Rattle.buffer.specs.PutsLaws.{then, same, none}
 use Rattle.profile.specs.TagTypes.{join}
 use Rattle.job.specs.Job as Job
@@ -16,7 +16,7 @@ use Rattle.job_output.proofs.put_parts.Statement.{statement}
 use Rattle.job_output.proofs.put_parts.Tie as tie
 
 abbrev Inv-loop : tie.InvT-loop
-Inv-loop stream job n out₀ start at₀ i₀ out at i = (i ≤ n) × Puts out₀ start (join (take i (partsOf stream (Job.job 1 job)))) at out × (length out ≡ length out₀)
+Inv-loop stream job n out₀ start at₀ i₀ out at i = (i ≤ n) × PutsText out₀ start (join (take i (partsOf stream (Job.job 1 job)))) at out × (length out ≡ length out₀)
 
 abbrev μ-loop : tie.MeasureT-loop
 μ-loop stream job n out₀ start at₀ i₀ out at i = n - i
@@ -37,8 +37,8 @@ put-part-requires c κs =
     let start = c .before .before .before .before .before .before .before .before .before in
     let asked = c .before .before .before .before .entry-alone .ensures in
     let is = c .before .before .next .given .1 in
-    let next = found (start .args .stream) (start .pre .0) (c .before .before .before .before .before .loop-test .taken) (asked .0) is in
-    (rw is at (asked .1), omega (arith, next .room, loop .inv .1 .place, loop .inv .2, start .pre .1))
+    let next = found (start .args .stream) (start .pre .0) (c .before .before .before .before .before .loop-test .taken) (asked .answer) is in
+    (rw is at (asked .bounds), omega (arith, next .room, loop .inv .1 .place, loop .inv .2, start .pre .1))
 
 add-i : tie.Need-add-i Inv-loop μ-loop
 add-i c = omega arith
@@ -51,7 +51,7 @@ loop-again c =
     let loop = c .before .before .before .loop in
     let start = c .before .before .before .before .before .before in
     let below = c .before .before .loop-test .taken in
-    let asked = c .before .entry-alone .ensures .0 in
+    let asked = c .before .entry-alone .ensures .answer in
     ⊎-elim
     (λ w.
     let next = found (start .args .stream) (start .pre .0) below asked (w .1 .given .1) in (

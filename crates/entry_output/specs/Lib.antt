@@ -1,0 +1,3 @@
+pub mod EntryOutput
+pub mod Steps
+pub mod EntryOutputLaws
