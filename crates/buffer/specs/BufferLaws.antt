@@ -1,13 +1,13 @@
 -- Laws of `put`, by which a run of writes is shown to leave one list of bytes.
 -- Assumes nothing.
-use Prim.Native.Nat.{ℕ, _+_, _-_, _≤_}
+use Prim.Native.Nat.{ℕ, zero, suc, _+_, _-_, _≤_}
 use mathlib.Core.Path.{_≡_, refl, ap, sym, _∙_}
-use mathlib.Core.List.{List, [], _∷_, _++_, append-assoc}
-use native.Mathlib.Nat.{add-zero, add-assoc}
+use mathlib.Core.List.{List, [], _∷_, _++_, append-assoc, append-nil}
+use native.Mathlib.Nat.{add-zero, zero-add, add-assoc}
 use native.Mathlib.Omega.{arith}
 use native.Mathlib.Numerals.{add-one, add-two, add-three}
 use lib.ListN.{length, take, drop, set, length-append, length-drop, length-replicate, replicate-append-replicate, take-append-drop}
-use lib.Seq.{take-at, drop-at, drop-drop, length-take-le, drop-append-add, sets, sets-eq, paste, take-length}
+use lib.Seq.{take-at, drop-at, drop-length, take-append-le, drop-append-le, set-at, drop-drop, length-take-le, drop-append-add, sets, sets-eq, paste, take-length}
 use Rattle.buffer.specs.Buffer.{put}
 use Rattle.buffer.specs.Bytes.{zeros}
 
@@ -25,6 +25,61 @@ put-nothing l i = rw add-zero (take-append-drop i l)
 pub put-after : (p d r : List ℕ) (n : ℕ) → length p ≡ n → put (p ++ d) n r ≡ p ++ (r ++ drop (length r) d)
 unfolding put
 put-after p d r n e = rw (← e, take-at p d (length p) refl, drop-append-add p d (length r))
+
+-- bytes put from a place within a list end within what is left
+pub put-end : (l : List ℕ) (i : ℕ) (q : List ℕ) → i ≤ length l → i + length q ≤ length (put l i q)
+unfolding put
+put-end l i q h = simp (length-append, length-drop) (omega (arith, length-take-le i l h))
+
+-- as many bytes as there are, put from the front on
+pub put-whole : (l q : List ℕ) → length q ≡ length l → put l 0 q ≡ q
+unfolding put
+put-whole l q h = rw (zero-add (length q), h, drop-length) (append-nil q)
+
+-- bytes put in front of zeros
+drop-zeros : (k n : ℕ) → drop k (zeros n) ≡ zeros (n - k)
+drop-zeros zero n = ap zeros (all n)
+  where
+    all : (n : ℕ) → n ≡ n - 0
+    all n = omega arith
+drop-zeros (suc k) zero = ap zeros (none-left k)
+  where
+    none-left : (k : ℕ) → 0 ≡ 0 - suc k
+    none-left k = omega arith
+drop-zeros (suc k) (suc n) = drop-zeros k n ∙ ap zeros (both n k)
+  where
+    both : (n k : ℕ) → n - k ≡ suc n - suc k
+    both n k = omega arith
+
+pub put-front : (n : ℕ) (q : List ℕ) → put (zeros n) 0 q ≡ q ++ zeros (n - length q)
+unfolding put
+put-front n q = rw (zero-add (length q)) (ap (λ (l : List ℕ). q ++ l) (drop-zeros (length q) n))
+
+-- bytes put behind the first ones
+pub put-behind : (l : List ℕ) (at : ℕ) (q : List ℕ) → take at l ++ put (drop at l) 0 q ≡ put l at q
+unfolding put
+put-behind l at q = rw (zero-add (length q), drop-drop (length q) at l)
+
+-- bytes put over as many others
+pub put-over : (p o r q : List ℕ) (i : ℕ) → length p ≡ i → length q ≡ length o → put (p ++ (o ++ r)) i q ≡ p ++ (q ++ r)
+put-over p o r q i e h = put-after p (o ++ r) q i e ∙ ap (λ (s : List ℕ). p ++ (q ++ s)) (drop-at o r (length q) (sym h))
+
+-- bytes put in again, within what was put at the front
+pub put-within : (l p : List ℕ) (i : ℕ) (q : List ℕ) → i + length q ≤ length p → put (put l 0 p) i q ≡ put l 0 (put p i q)
+unfolding put
+put-within l p i q h =
+    rw (
+      length-put p i q h,
+      zero-add (length p),
+      take-append-le i p (drop (length p) l) (omega arith),
+      drop-append-le (i + length q) p (drop (length p) l) h,
+    )
+    (simp append-assoc)
+
+-- the first of the bytes that were put, written over
+pub set-put : (l rest : List ℕ) (at y b : ℕ) → at ≤ length l → set (put l at (y ∷ rest)) at b ≡ put l at (b ∷ rest)
+unfolding put
+set-put l rest at y b h = set-at (take at l) y (rest ++ drop (at + length (y ∷ rest)) l) b at (length-take-le at l h)
 
 -- one run of bytes and then the next
 pub put-put : (l : List ℕ) (i : ℕ) (q r : List ℕ) → i ≤ length l → put (put l i q) (i + length q) r ≡ put l i (q ++ r)

@@ -17,7 +17,7 @@ same-if (a ∷ l) [] e = let z : _≡_ {A = ℕ} 0 1 = cc in absurd (omega arith
 same-if (a ∷ l) (b ∷ m) e =
     ap₂ (λ (x : ℕ) (l : List ℕ). x ∷ l) (eqb→eq a b (holds (both-left (eqb a b) (same l m) e))) (same-if l m (both-right (eqb a b) (same l m) e))
 
-pub same-self : (a : List ℕ) → same a a ≡ true
+same-self : (a : List ℕ) → same a a ≡ true
 unfolding same
 same-self [] = refl
 same-self (a ∷ l) = rw (eq-eqb a a refl) (same-self l)

@@ -6,6 +6,11 @@ pub data Checked (A : Type 0) : Type 0 where
   is : A → Checked A
   refused : ℕ → Checked A
 
+-- the value, or the other one where it is refused
+abbrev pub valueOr : {A : Type 0} → A → Checked A → A
+valueOr other (is a) = a
+valueOr other (refused n) = other
+
 -- one check after another
 abbrev pub then : {A B : Type 0} → Checked A → (A → Checked B) → Checked B
 then (is a) f = f a

@@ -9,5 +9,9 @@ pub mod Bytes
 pub mod BytesLaws
 pub mod Checked
 pub mod CheckedLaws
+pub mod First
+pub mod FirstLaws
+pub mod Outputs
+pub mod OutputsLaws
 pub mod Puts
 pub mod PutsLaws

@@ -1,13 +1,12 @@
 -- Runs of bytes written one after another.
 -- Assumes nothing.
-use Prim.Native.Nat.{ℕ, zero, suc, _+_, _-_, _≤_}
-use mathlib.Core.Path.{_≡_, refl, sym, ap, _∙_}
+use Prim.Native.Nat.{ℕ, _+_, _-_, _≤_}
+use mathlib.Core.Path.{_≡_, refl, sym, _∙_}
 use mathlib.Core.List.{List, [], _∷_, _++_}
 use native.Mathlib.Nat.{add-zero, zero-add}
 use native.Mathlib.Omega.{arith}
-use lib.ListN.{length, drop, set, replicate, length-append}
-use Rattle.buffer.specs.Buffer.{put}
-use Rattle.buffer.specs.BufferLaws.{put-nothing, put-put, one-store}
+use lib.ListN.{length, set, replicate, length-append}
+use Rattle.buffer.specs.BufferLaws.{put-nothing, put-front, put-put, one-store}
 use Rattle.buffer.specs.Puts.{Puts, PutsText}
 
 -- q and then r are one run
@@ -43,23 +42,5 @@ pub store : (l : List ℕ) (at b : ℕ) → at + 1 ≤ length l → Puts l at 1 
 store l at b h = record { size = refl; place = refl; bytes = one-store l at b h }
 
 -- bytes put in front of zeros
-drop-replicate : (k n : ℕ) → drop {A = ℕ} k (replicate n 0) ≡ replicate (n - k) 0
-drop-replicate zero n = ap (λ (i : ℕ). replicate i 0) (all n)
-  where
-    all : (n : ℕ) → n ≡ n - 0
-    all n = omega arith
-drop-replicate (suc k) zero = ap (λ (i : ℕ). replicate i 0) (none-left k)
-  where
-    none-left : (k : ℕ) → 0 ≡ 0 - suc k
-    none-left k = omega arith
-drop-replicate (suc k) (suc n) = drop-replicate k n ∙ ap (λ (i : ℕ). replicate i 0) (both n k)
-  where
-    both : (n k : ℕ) → n - k ≡ suc n - suc k
-    both n k = omega arith
-
 pub in-front : (n : ℕ) {q o : List ℕ} {r : ℕ} → PutsText (replicate n 0) 0 q r o → (r ≡ length q) × (o ≡ q ++ replicate (n - length q) 0)
-unfolding put
-in-front n {q} {o} {r} p = (
-  p .place ∙ zero-add (length q),
-  p .bytes ∙ ap (λ (i : ℕ). q ++ drop i (replicate n 0)) (zero-add (length q)) ∙ ap (λ (l : List ℕ). q ++ l) (drop-replicate (length q) n),
-)
+in-front n {q} p = (p .place ∙ zero-add (length q), p .bytes ∙ put-front n q)
