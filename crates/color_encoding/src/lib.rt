@@ -1,12 +1,12 @@
 // The color encodings that a profile is written for: the `Jxl...` enums of api/color.rs and `RenderingIntent` of
 // headers/color_encoding.rs, the CIE xy coordinates of each white point and set of primaries, and each enum from its job number.
+// (An encoding from the codes of its parts is in encoding_codes.)
 ghost use mathlib.Core.Path.{_≡_};
 ghost use Rattle.color_encoding.specs.Coordinates.{whiteXy, primariesXy};
 ghost use Rattle.color_encoding.specs.Intent.{intentNumber, intentName};
 ghost use Rattle.color_encoding.specs.Codes.{intentFrom, whitePointFrom, primariesFrom, transferFunctionFrom};
-ghost use Rattle.color_encoding.specs.Codes.{knownIntent, knownWhitePoint, knownPrimaries, knownTransferFunction, knownEncoding};
+ghost use Rattle.color_encoding.specs.Codes.{knownIntent, knownWhitePoint, knownPrimaries, knownTransferFunction};
 ghost use Rattle.color_encoding.specs.Codes.{whitePointNumber, primariesNumber, transferFunctionNumber};
-ghost use Rattle.color_encoding.specs.Codes.{grayFrom, rgbFrom, xybFrom};
 
 pub enum RenderingIntent {
     Perceptual,
@@ -322,67 +322,5 @@ impl JxlTransferFunction {
             6 => TransferFunctionCode::Known(JxlTransferFunction::Gamma(gamma)),
             _ => TransferFunctionCode::Unknown,
         }
-    }
-}
-
-impl JxlColorEncoding {
-    pub fn gray_from_codes(
-        white: WhitePointCode,
-        transfer: TransferFunctionCode,
-        intent: IntentCode,
-    ) -> EncodingCode
-        ensures { λ r. ⌜ knownEncoding r ≡ grayFrom (knownWhitePoint white) (knownTransferFunction transfer) (knownIntent intent) ⌝ }
-    {
-        let WhitePointCode::Known(white_point) = white else {
-            return EncodingCode::Unknown;
-        };
-        let TransferFunctionCode::Known(transfer_function) = transfer else {
-            return EncodingCode::Unknown;
-        };
-        let IntentCode::Known(rendering_intent) = intent else {
-            return EncodingCode::Unknown;
-        };
-        EncodingCode::Known(JxlColorEncoding::GrayscaleColorSpace {
-            white_point,
-            transfer_function,
-            rendering_intent,
-        })
-    }
-
-    pub fn rgb_from_codes(
-        white: WhitePointCode,
-        primary: PrimariesCode,
-        transfer: TransferFunctionCode,
-        intent: IntentCode,
-    ) -> EncodingCode
-        ensures { λ r. ⌜ knownEncoding r ≡ rgbFrom (knownWhitePoint white) (knownPrimaries primary) (knownTransferFunction transfer) (knownIntent intent) ⌝ }
-    {
-        let WhitePointCode::Known(white_point) = white else {
-            return EncodingCode::Unknown;
-        };
-        let PrimariesCode::Known(primaries) = primary else {
-            return EncodingCode::Unknown;
-        };
-        let TransferFunctionCode::Known(transfer_function) = transfer else {
-            return EncodingCode::Unknown;
-        };
-        let IntentCode::Known(rendering_intent) = intent else {
-            return EncodingCode::Unknown;
-        };
-        EncodingCode::Known(JxlColorEncoding::RgbColorSpace {
-            white_point,
-            primaries,
-            transfer_function,
-            rendering_intent,
-        })
-    }
-
-    pub fn xyb_from_code(intent: IntentCode) -> EncodingCode
-        ensures { λ r. ⌜ knownEncoding r ≡ xybFrom (knownIntent intent) ⌝ }
-    {
-        let IntentCode::Known(rendering_intent) = intent else {
-            return EncodingCode::Unknown;
-        };
-        EncodingCode::Known(JxlColorEncoding::XYB { rendering_intent })
     }
 }

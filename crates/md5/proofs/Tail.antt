@@ -9,51 +9,42 @@ use native.Mathlib.Nat.{zero-add, not-suc-le-zero, le-of-suc-le-suc}
 use lib.ListN.{length, take, drop, set, replicate, length-replicate, length-append, length-drop, replicate-append-replicate}
 use lib.Seq.{take-at, drop-at, set-append-seam, take-append-add, drop-append-le}
 use Rattle.buffer.specs.Buffer.{put}
+use Rattle.buffer.specs.BufferLaws.{put-front, put-after}
+use Rattle.buffer.specs.Bytes.{zeros}
 use Rattle.md5.specs.Md5.{bytesOf, message, lengthBytes}
 
 -- the four bytes of a word, stored at a place of a list
 abbrev pub putWord : List ℕ → ℕ → ℕ → List ℕ
 putWord l at w = put l at (bytesOf w)
 
-take-zeros : (n k : ℕ) → n ≤ k → take n (replicate {A = ℕ} k 0) ≡ replicate n 0
-take-zeros zero k h = refl
-take-zeros (suc n) zero h = absurd (not-suc-le-zero h)
-take-zeros (suc n) (suc k) h = ap (λ (l : List ℕ). 0 ∷ l) (take-zeros n k (le-of-suc-le-suc h))
-
 -- d, then zeros, with 128 behind d
-marked : (d : List ℕ) → length d < 128 → set (put (replicate 128 0) 0 d) (length d) 128 ≡ d ++ 128 ∷ replicate (127 - length d) 0
-unfolding put
+marked : (d : List ℕ) → length d < 128 → set (put (zeros 128) 0 d) (length d) 128 ≡ d ++ 128 ∷ zeros (127 - length d)
 marked d h =
-    let zeros : List ℕ = replicate (127 - length d) 0 in
-    let e : 128 ≡ length d + suc (127 - length d) = omega arith in
-    let f : replicate {A = ℕ} 128 0 ≡ replicate (length d) 0 ++ 0 ∷ zeros =
-    ap (λ (n : ℕ). replicate {A = ℕ} n 0) e ∙ sym (replicate-append-replicate (length d) (suc (127 - length d)) 0) in
-    let g : drop (0 + length d) (replicate {A = ℕ} 128 0) ≡ 0 ∷ zeros =
-    ap₂ drop (zero-add (length d)) f ∙ drop-at (replicate (length d) 0) (0 ∷ zeros) (length d) (length-replicate (length d) 0) in
-    ap (λ (l : List ℕ). set (d ++ l) (length d) 128) g ∙ set-append-seam d 0 zeros 128
+    let e : 128 - length d ≡ suc (127 - length d) = omega arith in
+    ap (λ (l : List ℕ). set l (length d) 128) (put-front 128 d ∙ ap (λ (n : ℕ). d ++ zeros n) e) ∙ set-append-seam d 0 (zeros (127 - length d)) 128
 
 -- d, 128, zeros, and two words that end at e
 laid : (d : List ℕ) (lo hi e : ℕ) → length d + 9 ≤ e → e ≤ 128
-    → take e (putWord (putWord (d ++ 128 ∷ replicate (127 - length d) 0) (e - 8) lo) (e - 4) hi)
-    ≡ d ++ 128 ∷ replicate (e - 9 - length d) 0 ++ (bytesOf lo ++ bytesOf hi)
-unfolding put
+    → take e (putWord (putWord (d ++ 128 ∷ zeros (127 - length d)) (e - 8) lo) (e - 4) hi)
+    ≡ d ++ 128 ∷ zeros (e - 9 - length d) ++ (bytesOf lo ++ bytesOf hi)
 laid d lo hi e h k =
     let n = e - 9 - length d in
-    let zeros : List ℕ = replicate (127 - length d) 0 in
-    let u : List ℕ = d ++ 128 ∷ replicate n 0 in
-    let place : e - 8 ≡ length d + suc n = omega arith in
-    let length-u : length u ≡ e - 8 = omega (arith, length-append d (128 ∷ replicate n 0), length-replicate {A = ℕ} n 0) in
-    let cut : take (e - 8) (d ++ 128 ∷ zeros) ≡ u =
-    ap (λ (i : ℕ). take i (d ++ 128 ∷ zeros)) place ∙ take-append-add d (128 ∷ zeros) (suc n)
-    ∙ ap (λ (l : List ℕ). d ++ 128 ∷ l) (take-zeros n (127 - length d) (omega arith)) in
-    let one : take (e - 4) (putWord (d ++ 128 ∷ zeros) (e - 8) lo) ≡ u ++ bytesOf lo =
-    ap (λ (l : List ℕ). take (e - 4) (l ++ (bytesOf lo ++ drop (e - 8 + 4) (d ++ 128 ∷ zeros)))) cut
-    ∙ ap (take (e - 4)) (sym (append-assoc u (bytesOf lo) (drop (e - 8 + 4) (d ++ 128 ∷ zeros))))
-    ∙ take-at (u ++ bytesOf lo) (drop (e - 8 + 4) (d ++ 128 ∷ zeros)) (e - 4) (length-append u (bytesOf lo) ∙ omega arith) in
-    let back : List ℕ = drop (e - 4 + 4) (putWord (d ++ 128 ∷ zeros) (e - 8) lo) in
-    ap (λ (l : List ℕ). take e (l ++ (bytesOf hi ++ back))) one
-    ∙ ap (take e) (sym (append-assoc (u ++ bytesOf lo) (bytesOf hi) back))
-    ∙ take-at (u ++ bytesOf lo ++ bytesOf hi) back e (length-append (u ++ bytesOf lo) (bytesOf hi) ∙ omega (arith, length-append u (bytesOf lo)))
+    let u : List ℕ = d ++ 128 ∷ zeros n in
+    let rest : List ℕ = zeros (136 - e) in
+    let sum : 127 - length d ≡ n + (136 - e) = omega arith in
+    let whole : d ++ 128 ∷ zeros (127 - length d) ≡ u ++ rest =
+    ap (λ (i : ℕ). d ++ 128 ∷ zeros i) sum ∙ ap (λ (l : List ℕ). d ++ 128 ∷ l) (sym (replicate-append-replicate n (136 - e) 0))
+    ∙ sym (append-assoc d (128 ∷ zeros n) rest) in
+    let length-u : length u ≡ e - 8 = omega (arith, length-append d (128 ∷ zeros n), length-replicate {A = ℕ} n 0) in
+    let length-v : length (u ++ bytesOf lo) ≡ e - 4 = omega (arith, length-append u (bytesOf lo), length-u) in
+    let one : putWord (u ++ rest) (e - 8) lo ≡ (u ++ bytesOf lo) ++ drop 4 rest =
+    put-after u rest (bytesOf lo) (e - 8) length-u ∙ sym (append-assoc u (bytesOf lo) (drop 4 rest)) in
+    let two : putWord ((u ++ bytesOf lo) ++ drop 4 rest) (e - 4) hi ≡ ((u ++ bytesOf lo) ++ bytesOf hi) ++ drop 4 (drop 4 rest) =
+    put-after (u ++ bytesOf lo) (drop 4 rest) (bytesOf hi) (e - 4) length-v ∙ sym (append-assoc (u ++ bytesOf lo) (bytesOf hi) (drop 4 (drop 4 rest))) in
+    ap (λ (l : List ℕ). take e (putWord (putWord l (e - 8) lo) (e - 4) hi)) whole
+    ∙ ap (λ (l : List ℕ). take e (putWord l (e - 4) hi)) one
+    ∙ ap (take e) two
+    ∙ take-at ((u ++ bytesOf lo) ++ bytesOf hi) (drop 4 (drop 4 rest)) e (omega (arith, length-append (u ++ bytesOf lo) (bytesOf hi), length-v))
     ∙ append-assoc u (bytesOf lo) (bytesOf hi)
 
 -- the message from its n-th byte on, which is one of m

@@ -81,9 +81,9 @@ const SINEPARTS: [u32; 64] = [
 ];
 
 // The four rounds, and then the sums with the words that the block began with.
-fn block(words: [u32; 16], t: [u32; 64], w: State) -> State
-    requires { ⌜ t ≡ sineParts ⌝ }
-    ensures { λ r. ⌜ r ≡ afterBlock words w ⌝ }
+fn block(words: &[u32; 16], t: &[u32; 64], w: State) -> State
+    requires { ⌜ now t ≡ sineParts ⌝ }
+    ensures { λ r. ⌜ r ≡ afterBlock (now (words .entry)) w ⌝ }
 {
     let v = round_1(words, t, w);
     let v = round_2(words, t, v);
@@ -121,14 +121,15 @@ fn block_words(data: &[u8], i: usize) -> [u32; 16]
 }
 
 // All whole blocks of the data, one after the other. The data is read in place.
-fn process(data: &[u8], t: [u32; 64], w: State) -> State
-    requires { ⌜ t ≡ sineParts ⌝ }
+fn process(data: &[u8], t: &[u32; 64], w: State) -> State
+    requires { ⌜ now t ≡ sineParts ⌝ }
     ensures { λ r. ⌜ r ≡ afterBlocks (length (now («data» .entry)) / 64) (wordsOf (now («data» .entry))) w ⌝ }
 {
     let mut v = w;
     let n = data.len() / 64;
     for i in 0..n {
-        v = block(block_words(data, i), t, v);
+        let words = block_words(data, i);
+        v = block(&words, t, v);
     }
     v
 }
@@ -192,8 +193,9 @@ pub fn compute_md5(data: &[u8]) -> [u8; 16]
         c: 0x98badcfe,
         d: 0x10325476,
     };
-    let w = process(data, SINEPARTS, buffer);
+    let t = SINEPARTS;
+    let w = process(data, &t, buffer);
     let mut tail = [0u8; 128];
     let end = pad(data, &mut tail);
-    digest(process(&tail[..end], SINEPARTS, w))
+    digest(process(&tail[..end], &t, w))
 }

@@ -1,6 +1,4 @@
-mod Choice
 mod FixedNumber
 mod NarrowPattern
 mod Narrowing
-mod Rest
 mod TwosComplement

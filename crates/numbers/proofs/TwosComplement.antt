@@ -12,7 +12,7 @@ use borrow.Author.Tests.{le-ltb}
 use mir.Syntax.{w32}
 use mir.Val.{Fits, SFits, toZ, ofZ}
 use mir.ValLaws.{toZ-ofZ, toZ-pos}
-use Rattle.numbers.specs.Words.{twosComplement32, signed32}
+use Rattle.words.specs.Words.{twosComplement32, signed32}
 
 -- a signed number, through its bits, as a signed operation reads it
 abbrev back : ℤ → ℤ

@@ -28,13 +28,13 @@ fraction-within s num den d = go (leb (num * 65536) (largest * den)) (leb→le (
     go true p = rw (natAbs-signed s (halvesUp (num * 65536) den)) (halvesUp-le (num * 65536) den d largest (p tt))
     go false p = lit≤ tt
 
-pub fixedNumber-within : (x : Float) → natAbs (fixedNumber x) ≤ largest
+fixedNumber-within : (x : Float) → natAbs (fixedNumber x) ≤ largest
 unfolding s15Fixed16
 fixedNumber-within nan = lit≤ tt
 fixedNumber-within (inf s) = lit≤ tt
 fixedNumber-within (fin s m e) = fraction-within s (m * up e) (down e) (down-pos e)
 
-pub number-within : (x : Float) (z : ℤ) → s15Fixed16 x ≡ Number z → natAbs z ≤ largest
+number-within : (x : Float) (z : ℤ) → s15Fixed16 x ≡ Number z → natAbs z ≤ largest
 number-within x z e = rw e at (fixedNumber-within x)
 
 -- ---- a float that has a fixed number

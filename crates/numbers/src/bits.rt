@@ -2,7 +2,7 @@
 
 ghost use mathlib.Core.Path.{_≡_};
 ghost use lib.Ieee.{binary32, binary64, ofBits, toBits};
-ghost use Rattle.numbers.specs.Words.{twosComplement32, signed32};
+ghost use Rattle.words.specs.Words.{twosComplement32, signed32};
 
 // A cast takes no negative number: its distance below -1 is taken from all ones.
 pub fn i32_to_bits(v: i32) -> u32

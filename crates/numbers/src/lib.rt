@@ -1,10 +1,9 @@
-// Numbers as an ICC profile holds them: big-endian words, the bits of signed numbers and of floats, s15Fixed16 numbers, and
-// the narrowing of an f64 to an f32.
+// Numbers as an ICC profile holds them: the bits of signed numbers and of floats, s15Fixed16 numbers, and the narrowing of an f64 to an f32.
+// (Their bytes are in words.)
 
 pub mod bits;
 pub mod fixed;
 pub mod narrow;
-pub mod words;
 
 pub use bits::f32_from_bits;
 pub use bits::f32_to_bits;
@@ -15,8 +14,3 @@ pub use fixed::LARGEST;
 pub use fixed::S15Fixed16;
 pub use fixed::to_s15_fixed_16;
 pub use narrow::f64_to_f32;
-pub use words::put_u16_be;
-pub use words::put_u32_be;
-pub use words::read_u32_be;
-pub use words::write_u16_be;
-pub use words::write_u32_be;

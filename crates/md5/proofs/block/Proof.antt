@@ -37,10 +37,10 @@ unfolding afterBlock
 returns c =
     let a = c .before .before .before .before .before .before .before .before .args in
     let v = c .before .before .before .before .round-4 .result in
-    let rounds : v ≡ round4 (a .words) (round3 (a .words) (round2 (a .words) (round1 (a .words) (a .w)))) =
-    c .before .before .before .before .round-4 .ensures ∙ ap (round4 (a .words))
-    (c .before .before .before .before .before .round-3 .ensures ∙ ap (round3 (a .words))
-    (c .before .before .before .before .before .before .round-2 .ensures ∙ ap (round2 (a .words))
+    let rounds : v ≡ round4 (a .words .now) (round3 (a .words .now) (round2 (a .words .now) (round1 (a .words .now) (a .w)))) =
+    c .before .before .before .before .round-4 .ensures ∙ ap (round4 (a .words .now))
+    (c .before .before .before .before .before .round-3 .ensures ∙ ap (round3 (a .words .now))
+    (c .before .before .before .before .before .before .round-2 .ensures ∙ ap (round2 (a .words .now))
     (c .before .before .before .before .before .before .before .round-1 .ensures))) in
     let sums : _ ≡ plus v (a .w) =
     λ i. record {

@@ -35,9 +35,9 @@ digest-requires c κs = search needs
 
 returns : tie.Need-returns
 returns c =
-    let m = c .before .before .before .before .before .before .before .before .args .«data» .now in
-    c .digest .ensures ∙ ap output (c .before .process2 .ensures ∙ ap (afterBlocks _ _) (c .before .before .before .before .before .before .process .ensures))
-    ∙ in-two m _ (c .before .before .before .before .pad .ensures .1)
+    let m = c .before .before .before .before .before .before .before .before .before .before .args .«data» .now in
+    c .digest .ensures ∙ ap output (c .before .process2 .ensures ∙ ap (afterBlocks _ _) (c .before .before .before .before .before .before .before .process .ensures))
+    ∙ in-two m _ (c .before .before .before .before .before .pad .ensures .1)
 
 pub compute-md5-spec : {M : Type 1} → statement M
 compute-md5-spec =

@@ -1,10 +1,15 @@
--- `md5::digest` meets its contract: the four words are stored one behind the other, and the list that they leave is computed.
+-- `md5::digest` meets its contract: the four words are stored one behind the other, and fill the list.
 -- Assumes nothing.
-use mathlib.Core.Path.{ap, _∙_}
-use mathlib.Core.List.{List}
+use mathlib.Core.Path.{_≡_, refl, ap, _∙_}
+use mathlib.Core.List.{List, _++_}
+use lib.Dec.{lit≤}
 use Prim.Native.Nat.{ℕ}
 use Rattle.md5.proofs.Tail.{putWord}
 use Rattle.buffer.specs.Buffer.{put}
+use Rattle.buffer.specs.BufferLaws.{put-put, put-whole}
+use Rattle.buffer.specs.Bytes.{zeros}
+use Rattle.md5_rounds.specs.declared.State.{State}
+use Rattle.md5.specs.Md5.{bytesOf, output}
 use borrow.Author.Needs.{needs}
 use Rattle.md5.proofs.digest.Statement.{statement}
 use Rattle.md5.proofs.digest.Tie as tie
@@ -33,14 +38,26 @@ slice-aggregate-put-word-4 c = search needs
 put-word-requires-4 : tie.Need-put-word-requires-4
 put-word-requires-4 c κs = search needs
 
+-- four words of four bytes fill sixteen
+filled : (w : State) → putWord (putWord (putWord (putWord (zeros 16) 0 (w .a)) 4 (w .b)) 8 (w .c)) 12 (w .d) ≡ output w
+filled w =
+    let a = bytesOf (w .a) in
+    let b = bytesOf (w .b) in
+    let c = bytesOf (w .c) in
+    let d = bytesOf (w .d) in
+    ap (λ (l : List ℕ). put (put l 8 c) 12 d) (put-put (zeros 16) 0 a b (lit≤ tt))
+    ∙ ap (λ (l : List ℕ). put l 12 d) (put-put (zeros 16) 0 (a ++ b) c (lit≤ tt))
+    ∙ put-put (zeros 16) 0 (a ++ b ++ c) d (lit≤ tt)
+    ∙ put-whole (zeros 16) (a ++ b ++ c ++ d) refl
+
 returns : tie.Need-returns
-unfolding put
 returns c =
     let w = c .before .before .before .before .before .before .before .before .before .before .before .before .args .w in
     c .before .put-word4 .ensures ∙ ap (λ (l : List ℕ). putWord l 12 (w .d))
     (c .before .before .before .before .put-word3 .ensures ∙ ap (λ (l : List ℕ). putWord l 8 (w .c))
     (c .before .before .before .before .before .before .before .put-word2 .ensures ∙ ap (λ (l : List ℕ). putWord l 4 (w .b))
     (c .before .before .before .before .before .before .before .before .before .before .put-word .ensures)))
+    ∙ filled w
 
 pub digest-spec : {M : Type 1} → statement M
 digest-spec =

@@ -35,11 +35,11 @@ loop-less c = search needs
 loop-again : tie.Need-loop-again Inv-loop μ-loop
 unfolding afterBlocks
 loop-again c =
-    let a = c .before .before .before .before .before .args in
-    let loop = c .before .before .before .loop in
+    let a = c .before .before .before .before .before .before .args in
+    let loop = c .before .before .before .before .loop in
     let M = wordsOf (a .«data» .now) in (
       search needs,
-      c .block .ensures ∙ ap₂ afterBlock (c .before .block-words .ensures) (loop .inv .1) ∙ ap (λ (n : ℕ). afterBlocks n M (a .w)) (sym (add-one (loop .i))),
+      c .block .ensures ∙ ap₂ afterBlock (c .before .before .block-words .ensures) (loop .inv .1) ∙ ap (λ (n : ℕ). afterBlocks n M (a .w)) (sym (add-one (loop .i))),
     )
 
 returns : tie.Need-returns Inv-loop μ-loop

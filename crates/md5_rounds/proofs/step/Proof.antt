@@ -20,7 +20,17 @@ wrapping-add-u32-requires-4 : tie.Need-wrapping-add-u32-requires-4
 wrapping-add-u32-requires-4 c κs = search needs
 
 returns : tie.Need-returns
-returns c = cc
+returns c =
+    let rotated = c .before in
+    let third = rotated .before in
+    let second = third .before in
+    simp (
+      c .wrapping-add-u324 .ensures,
+      rotated .rotate-left .ensures,
+      third .wrapping-add-u323 .ensures,
+      second .wrapping-add-u322 .ensures,
+      second .before .wrapping-add-u32 .ensures,
+    )
 
 pub step-spec : {M : Type 1} → statement M
 step-spec =

@@ -1,9 +1,23 @@
--- `md5_rounds::step_f` meets its contract: it is what `step` ensures, with the value of the round's function.
--- Assumes nothing.
-use borrow.Author.Needs.{needs}
+-- `step_f` meets its contract: it is what `step` ensures, with the value of the round's function.
 use Rattle.md5_rounds.specs.Rounds.{operate}
+use borrow.Author.Needs.{needs}
 use Rattle.md5_rounds.proofs.step_f.Statement.{statement}
 use Rattle.md5_rounds.proofs.step_f.Tie as tie
+
+mul-step : tie.Need-mul-step
+mul-step c = search needs
+
+element-copy-out-step : tie.Need-element-copy-out-step
+element-copy-out-step c = search needs
+
+sub-step : tie.Need-sub-step
+sub-step c = search needs
+
+mul-step-2 : tie.Need-mul-step-2
+mul-step-2 c = search needs
+
+element-copy-out-step-2 : tie.Need-element-copy-out-step-2
+element-copy-out-step-2 c = search needs
 
 step-requires : tie.Need-step-requires
 step-requires c κs = search needs
@@ -13,4 +27,13 @@ unfolding operate
 returns c = c .step .ensures
 
 pub step-f-spec : {M : Type 1} → statement M
-step-f-spec = tie.close (tie.spec step-requires returns)
+step-f-spec =
+    tie.close
+    (tie.spec
+    mul-step
+    element-copy-out-step
+    sub-step
+    mul-step-2
+    element-copy-out-step-2
+    step-requires
+    returns)

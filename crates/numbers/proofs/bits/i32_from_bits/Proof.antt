@@ -2,7 +2,7 @@
 -- Assumes nothing.
 use mathlib.Core.Path.{sym}
 use borrow.Author.Needs.{needs}
-use Rattle.numbers.specs.WordsLaws.{signed32-is}
+use Rattle.words.specs.WordsLaws.{signed32-is}
 use Rattle.numbers.proofs.TwosComplement.{difference-fits, high-bits}
 use Rattle.numbers.proofs.bits.i32_from_bits.Statement.{statement}
 use Rattle.numbers.proofs.bits.i32_from_bits.Tie as tie

@@ -1,0 +1,2 @@
+mod Choice
+mod Rest
