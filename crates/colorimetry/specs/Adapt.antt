@@ -10,7 +10,7 @@ use Rattle.linalg.specs.Linalg.{three, component, matrix, entry, applied, produ
 use Rattle.numbers.specs.Narrow.{narrow}
 use Rattle.color_encoding.specs.declared.WhiteXy.{WhiteXy}
 use Rattle.color_encoding.specs.Range.{inRange}
-use Rattle.colorimetry.specs.White.{whiteXyz, finite, finiteXyz}
+use Rattle.white_point.specs.White.{whiteXyz, finite, finiteXyz}
 use Rattle.colorimetry.specs.declared.Adaptation.{Adaptation}
 use Rattle.colorimetry.specs.declared.Adaptation.the-variants.{Adapted, InvalidWhitePoint}
 

@@ -6,11 +6,11 @@ use lib.Ieee.{Float}
 use Rattle.buffer.specs.Checked.{Checked, is, refused, then}
 use Rattle.floats.specs.Binary64.{_⊖_, one}
 use Rattle.linalg.specs.Linalg.{applied, product}
-use Rattle.linalg.specs.Inverse.{singular, inverse}
+use Rattle.matrix_inverse.specs.Inverse.{singular, inverse}
 use Rattle.color_encoding.specs.declared.WhiteXy.{WhiteXy}
 use Rattle.color_encoding.specs.declared.PrimariesXy.{PrimariesXy}
 use Rattle.color_encoding.specs.Range.{inRange}
-use Rattle.colorimetry.specs.White.{whiteXyz, finiteXyz}
+use Rattle.white_point.specs.White.{whiteXyz, finiteXyz}
 use Rattle.colorimetry.specs.Adapt.{diagonal, invalidWhitePoint, adaptToXyzD50, narrowed}
 use Rattle.colorimetry.specs.declared.Conversion.{Conversion}
 use Rattle.colorimetry.specs.declared.Conversion.the-variants.{Converted, InvalidWhitePoint, MatrixInversionFailed}

@@ -1,19 +1,26 @@
-// From the CIE xy coordinates of a white point and of three primaries to the XYZ numbers of a profile: api/color.rs from K_BRADFORD to
-// `create_icc_rgb_matrix`, and `cie_xyz_from_white_cie_xy`. All is f64, from the widened coordinates on, but the white of gray.
+// From the CIE xy coordinates of a white point and of three primaries to the matrices of a profile: api/color.rs from K_BRADFORD to
+// `create_icc_rgb_matrix`. All is f64, from the widened coordinates on, until a matrix is narrowed.
 
 use color_encoding::PrimariesXy;
 use color_encoding::WhiteXy;
 use linalg::Matrix3x3;
 use linalg::Vector3;
+use white_point::finite_xyz;
+use white_point::in_range;
+use white_point::is_finite;
+use white_point::white_xyz;
 ghost use mathlib.Core.Path.{_≡_};
-ghost use Rattle.linalg.specs.Linalg.{three, component, rows, columns};
+ghost use mathlib.Core.Bool.{_&&_, not};
+ghost use Prim.Native.Nat.{_<_};
+ghost use Rattle.floats.specs.Binary64.{_⊘_};
+ghost use Rattle.buffer.specs.Checked.{is, then};
+ghost use Rattle.linalg.specs.Linalg.{three, component, entry, column, product, rows, columns};
 ghost use Rattle.numbers.specs.Narrow.{narrow};
 ghost use Rattle.color_encoding.specs.Range.{inRange};
-ghost use Rattle.colorimetry.specs.White.{whiteXyz, finite, finiteXyz};
-ghost use Rattle.colorimetry.specs.GrayWhite.{cieXyzFromWhiteCieXy, checkedWhiteXyz};
-ghost use Rattle.colorimetry.specs.Adapt.{diagonal, hasZero, lms, adaptationMatrix, adaptToXyzD50, checkedAdaptation, narrowed, chadMatrix};
-ghost use Rattle.colorimetry.specs.Primaries.{primariesMatrix, primariesToXyz, primariesToXyzD50, createIccRgbMatrix, checkedConversion};
-ghost use Rattle.colorimetry.specs.Output.{Outputs};
+ghost use Rattle.white_point.specs.White.{finiteXyz};
+ghost use Rattle.colorimetry.specs.Adapt.{d50, diagonal, hasZero, allFinite, lms, adaptationMatrix, adaptToXyzD50, checkedAdaptation, narrowed, chadMatrix};
+ghost use Rattle.colorimetry.specs.Primaries.{primariesMatrix, scaledPrimaries, primariesToXyz, primariesToXyzD50, createIccRgbMatrix, checkedConversion};
+ghost use Rattle.buffer.specs.Outputs.{Outputs};
 
 // Bradford matrices for chromatic adaptation.
 const K_BRADFORD: Matrix3x3 = [
@@ -39,43 +46,6 @@ pub enum Conversion {
     Converted,
     InvalidWhitePoint,
     MatrixInversionFailed,
-}
-
-// The XYZ of a gray white, or that y is too near to zero.
-pub enum WhiteXyz {
-    Xyz { x: f32, y: f32, z: f32 },
-    InvalidWhitePointY,
-}
-
-// x lies in [0, 1] and y in (0, 1].
-fn in_range(white: WhiteXy) -> bool
-    ensures { λ r. ⌜ r ≡ inRange white ⌝ }
-{
-    0.0 <= white.wx && white.wx <= 1.0 && (white.wy > 0.0 && white.wy <= 1.0)
-}
-
-// XYZ with Y = 1.
-fn white_xyz(white: WhiteXy) -> Vector3
-    ensures { λ r. ⌜ r ≡ whiteXyz white ⌝ }
-{
-    let wx = std::num::f32_to_f64_with_nan(white.wx);
-    let wy = std::num::f32_to_f64_with_nan(white.wy);
-    [wx / wy, 1.0, (1.0 - wx - wy) / wy]
-}
-
-fn is_finite(x: f64) -> bool
-    ensures { λ r. ⌜ r ≡ finite x ⌝ }
-{
-    // A NaN is on neither side of an infinity.
-    let infinity = 1.0f64 / 0.0;
-    -infinity < x && x < infinity
-}
-
-// Only X and Z can overflow.
-fn finite_xyz(v: Vector3) -> bool
-    ensures { λ r. ⌜ r ≡ finiteXyz v ⌝ }
-{
-    is_finite(v[0]) && is_finite(v[2])
 }
 
 fn has_zero(v: Vector3) -> bool
@@ -105,34 +75,53 @@ fn adaptation_matrix(gains: Vector3) -> Matrix3x3
     linalg::mul_3x3_matrix(K_BRADFORD_INV, b_matrix)
 }
 
+// What a cone response is multiplied by: that of D50 divided by that of the white.
+fn gain(d50: Vector3, source: Vector3, i: usize) -> f64
+    requires { ⌜ i < 3 ⌝ }
+    ensures { λ r. ⌜ r ≡ component d50 i ⊘ component source i ⌝ }
+{
+    d50[i] / source[i]
+}
+
+fn gains(source: Vector3) -> Vector3
+    ensures { λ r. ⌜ r ≡ three (λ i. component (lms d50) i ⊘ component source i) ⌝ }
+{
+    let w50 = [0.96422, 1.0, 0.82521];
+    let lms_d50 = lms(w50);
+    [
+        gain(lms_d50, source, 0),
+        gain(lms_d50, source, 1),
+        gain(lms_d50, source, 2),
+    ]
+}
+
+fn all_finite(v: Vector3) -> bool
+    ensures { λ r. ⌜ r ≡ allFinite v ⌝ }
+{
+    is_finite(v[0]) && (is_finite(v[1]) && is_finite(v[2]))
+}
+
+// Whether a white can be adapted, by its XYZ, its cone responses and its gains.
+fn is_adaptable(white: WhiteXy, w: Vector3, source: Vector3, gains: Vector3) -> bool
+    ensures { λ r. ⌜ r ≡ (inRange white && finiteXyz w && not (hasZero source) && allFinite gains) ⌝ }
+{
+    in_range(white) && (finite_xyz(w) && (!has_zero(source) && all_finite(gains)))
+}
+
 // The matrix that adapts XYZ from a white to D50, in `out`; `out` is unchanged where the white is refused.
 pub fn adapt_to_xyz_d50(white: WhiteXy, out: &mut Matrix3x3) -> Adaptation
     ensures { λ r. ⌜ Outputs (adaptToXyzD50 white) (checkedAdaptation r (now (out .exit))) (now (out .entry)) (now (out .exit)) ⌝ }
 {
-    if !in_range(white) {
-        return Adaptation::InvalidWhitePoint;
-    }
     let w = white_xyz(white);
-    if !finite_xyz(w) {
-        return Adaptation::InvalidWhitePoint;
-    }
-    let w50 = [0.96422, 1.0, 0.82521];
     let lms_source = lms(w);
-    let lms_d50 = lms(w50);
-    if has_zero(lms_source) {
-        return Adaptation::InvalidWhitePoint;
+    let gains = gains(lms_source);
+    if is_adaptable(white, w, lms_source, gains) {
+        let matrix = adaptation_matrix(gains);
+        *out = matrix;
+        Adaptation::Adapted
+    } else {
+        Adaptation::InvalidWhitePoint
     }
-    let mut gains = [0.0f64; 3];
-    for i in 0..3usize {
-        let gain = lms_d50[i] / lms_source[i];
-        if !is_finite(gain) {
-            return Adaptation::InvalidWhitePoint;
-        }
-        gains[i] = gain;
-    }
-    let matrix = adaptation_matrix(gains);
-    *out = matrix;
-    Adaptation::Adapted
 }
 
 // The matrix whose columns are x, y and z = 1 - x - y of the primaries.
@@ -151,26 +140,48 @@ fn primaries_matrix(primaries: PrimariesXy) -> Matrix3x3
     [[rx, gx, bx], [ry, gy, by], [rz, gz, bz]]
 }
 
+// The primaries, each scaled so that they add up to the white.
+fn scaled_primaries(p: Matrix3x3, w: Vector3) -> Matrix3x3
+    ensures { λ r. ⌜ r ≡ scaledPrimaries p w ⌝ }
+{
+    let p_inv_matrix = matrix_inverse::inv_3x3_matrix(p);
+    let s_vec = linalg::mul_3x3_vector(p_inv_matrix, w);
+    linalg::mul_3x3_matrix(p, diagonal(s_vec))
+}
+
 // The matrix from RGB to XYZ relative to the white, in `out`; `out` is unchanged where the white or the primaries are refused.
 pub fn primaries_to_xyz(primaries: PrimariesXy, white: WhiteXy, out: &mut Matrix3x3) -> Conversion
     ensures { λ r. ⌜ Outputs (primariesToXyz primaries white) (checkedConversion r (now (out .exit))) (now (out .entry)) (now (out .exit)) ⌝ }
 {
+    let p_matrix = primaries_matrix(primaries);
+    let w = white_xyz(white);
     if !in_range(white) {
         return Conversion::InvalidWhitePoint;
     }
-    let p_matrix = primaries_matrix(primaries);
-    if linalg::is_singular(p_matrix) {
+    if matrix_inverse::is_singular(p_matrix) {
         return Conversion::MatrixInversionFailed;
     }
-    let p_inv_matrix = linalg::inv_3x3_matrix(p_matrix);
-    let w = white_xyz(white);
     if !finite_xyz(w) {
         return Conversion::InvalidWhitePoint;
     }
-    let s_vec = linalg::mul_3x3_vector(p_inv_matrix, w);
-    let result_matrix = linalg::mul_3x3_matrix(p_matrix, diagonal(s_vec));
+    let result_matrix = scaled_primaries(p_matrix, w);
     *out = result_matrix;
     Conversion::Converted
+}
+
+// A matrix from RGB to XYZ relative to the white, adapted to D50, in `out`; `out` is unchanged where the white is refused.
+fn adapted(white: WhiteXy, m: Matrix3x3, out: &mut Matrix3x3) -> Conversion
+    ensures { λ r. ⌜ Outputs (then (adaptToXyzD50 white) (λ a. is (product a m))) (checkedConversion r (now (out .exit))) (now (out .entry)) (now (out .exit)) ⌝ }
+{
+    let mut adaptation_to_d50 = [[0.0f64; 3]; 3];
+    match adapt_to_xyz_d50(white, &mut adaptation_to_d50) {
+        Adaptation::InvalidWhitePoint => Conversion::InvalidWhitePoint,
+        Adaptation::Adapted => {
+            let result_matrix = linalg::mul_3x3_matrix(adaptation_to_d50, m);
+            *out = result_matrix;
+            Conversion::Converted
+        }
+    }
 }
 
 // The matrix from RGB to XYZ relative to D50, in `out`; `out` is unchanged where the white or the primaries are refused.
@@ -185,39 +196,28 @@ pub fn primaries_to_xyz_d50(
     match primaries_to_xyz(primaries, white, &mut rgb_to_xyz) {
         Conversion::InvalidWhitePoint => Conversion::InvalidWhitePoint,
         Conversion::MatrixInversionFailed => Conversion::MatrixInversionFailed,
-        Conversion::Converted => {
-            let mut adaptation_to_d50 = [[0.0f64; 3]; 3];
-            match adapt_to_xyz_d50(white, &mut adaptation_to_d50) {
-                Adaptation::InvalidWhitePoint => Conversion::InvalidWhitePoint,
-                Adaptation::Adapted => {
-                    let result_matrix = linalg::mul_3x3_matrix(adaptation_to_d50, rgb_to_xyz);
-                    *out = result_matrix;
-                    Conversion::Converted
-                }
-            }
-        }
+        Conversion::Converted => adapted(white, rgb_to_xyz, out),
     }
 }
 
 fn narrowed_row(row: Vector3) -> [f32; 3]
     ensures { λ r. ⌜ r ≡ three (λ j. narrow (component row j)) ⌝ }
 {
-    let mut result = [0.0f32; 3];
-    for j in 0..3usize {
-        result[j] = numbers::f64_to_f32(row[j]);
-    }
-    result
+    [
+        numbers::f64_to_f32(row[0]),
+        numbers::f64_to_f32(row[1]),
+        numbers::f64_to_f32(row[2]),
+    ]
 }
 
 fn narrowed(matrix: Matrix3x3) -> [[f32; 3]; 3]
     ensures { λ r. ⌜ r ≡ narrowed matrix ⌝ }
 {
-    let mut result = [[0.0f32; 3]; 3];
-    for i in 0..3usize {
-        let row = narrowed_row(matrix[i]);
-        result[i] = row;
-    }
-    result
+    [
+        narrowed_row(matrix[0]),
+        narrowed_row(matrix[1]),
+        narrowed_row(matrix[2]),
+    ]
 }
 
 // The adaptation to D50, each entry rounded once to f32, in `out`; `out` is unchanged where the white is refused.
@@ -255,53 +255,40 @@ pub fn create_icc_rgb_matrix(
     }
 }
 
+fn entry(m: [[f32; 3]; 3], i: usize, j: usize) -> f32
+    requires { ⌜ (i < 3) × (j < 3) ⌝ }
+    ensures { λ r. ⌜ r ≡ entry m i j ⌝ }
+{
+    m[i][j]
+}
+
 // The nine entries, row by row.
 pub fn rows(m: [[f32; 3]; 3]) -> [f32; 9]
     ensures { λ r. ⌜ r ≡ rows m ⌝ }
 {
     [
-        m[0][0],
-        m[0][1],
-        m[0][2],
-        m[1][0],
-        m[1][1],
-        m[1][2],
-        m[2][0],
-        m[2][1],
-        m[2][2],
+        entry(m, 0, 0),
+        entry(m, 0, 1),
+        entry(m, 0, 2),
+        entry(m, 1, 0),
+        entry(m, 1, 1),
+        entry(m, 1, 2),
+        entry(m, 2, 0),
+        entry(m, 2, 1),
+        entry(m, 2, 2),
     ]
+}
+
+fn column(m: [[f32; 3]; 3], j: usize) -> [f32; 3]
+    requires { ⌜ j < 3 ⌝ }
+    ensures { λ r. ⌜ r ≡ column m j ⌝ }
+{
+    [entry(m, 0, j), entry(m, 1, j), entry(m, 2, j)]
 }
 
 // The nine entries, column by column.
 pub fn columns(m: [[f32; 3]; 3]) -> [f32; 9]
     ensures { λ r. ⌜ r ≡ columns m ⌝ }
 {
-    [
-        m[0][0],
-        m[1][0],
-        m[2][0],
-        m[0][1],
-        m[1][1],
-        m[2][1],
-        m[0][2],
-        m[1][2],
-        m[2][2],
-    ]
-}
-
-// The XYZ of a gray profile's white, wholly in f32.
-pub fn cie_xyz_from_white_cie_xy(white: WhiteXy) -> WhiteXyz
-    ensures { λ r. ⌜ checkedWhiteXyz r ≡ cieXyzFromWhiteCieXy white ⌝ }
-{
-    let wx = white.wx;
-    let wy = white.wy;
-    if floats::binary32::abs_below(wy, 1e-12) {
-        return WhiteXyz::InvalidWhitePointY;
-    }
-    let factor = 1.0 / wy;
-    WhiteXyz::Xyz {
-        x: wx * factor,
-        y: 1.0,
-        z: (1.0 - wx - wy) * factor,
-    }
+    rows([column(m, 0), column(m, 1), column(m, 2)])
 }

@@ -1,3 +1,1 @@
 pub mod Linalg
-pub mod Inverse
-pub mod FillLaws

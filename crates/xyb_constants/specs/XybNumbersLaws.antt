@@ -11,7 +11,7 @@ use Rattle.numbers.specs.Narrow.{narrow}
 use Rattle.numbers.specs.declared.fixed.S15Fixed16.the-variants.{Number}
 use Rattle.linalg.specs.Linalg.{applied, product, dot}
 use Rattle.color_encoding.specs.Range.{inRange}
-use Rattle.colorimetry.specs.White.{finite, finiteXyz, whiteXyz}
+use Rattle.white_point.specs.White.{finite, finiteXyz, whiteXyz}
 use Rattle.colorimetry.specs.Adapt.{chadMatrix, adaptToXyzD50, adaptationMatrix, adaptable, hasZero, allFinite, lms, gains, narrowed}
 use Rattle.xyb_constants.specs.XybConstants.{unscaledA2bCubeFull}
 use Rattle.xyb_constants.specs.XybNumbers.{clut, mCurveFloats, mCurves, matrixFloats, matrix, chadFloats, chad, identityGamma}
@@ -48,15 +48,15 @@ chadTable =
 
 -- ---- by computation: the floats' fixed numbers are the tables', and none is refused
 
-pub mCurves-accepted : map s15Fixed16 mCurveFloats ≡ map Number mCurvesTable
+mCurves-accepted : map s15Fixed16 mCurveFloats ≡ map Number mCurvesTable
 unfolding s15Fixed16 ofBits neg le add sub mul div
 mCurves-accepted = refl
 
-pub matrix-accepted : map s15Fixed16 matrixFloats ≡ map Number matrixTable
+matrix-accepted : map s15Fixed16 matrixFloats ≡ map Number matrixTable
 unfolding s15Fixed16 narrow ofBits neg add mul
 matrix-accepted = refl
 
-pub chad-accepted : map s15Fixed16 chadFloats ≡ map Number chadTable
+chad-accepted : map s15Fixed16 chadFloats ≡ map Number chadTable
 unfolding s15Fixed16 chadMatrix adaptToXyzD50 adaptationMatrix adaptable inRange finite finiteXyz whiteXyz hasZero allFinite lms gains narrowed applied product dot narrow flatten ofBits neg eq lt le add sub mul div
 chad-accepted = refl
 
@@ -76,10 +76,6 @@ pub chad-is : chad ≡ chadTable
 unfolding chad
 chad-is = fixedNumbers-are chadFloats chadTable chad-accepted
 
-pub identityGamma-is : identityGamma ≡ pos 65536
-unfolding identityGamma s15Fixed16 ofBits
-identityGamma-is = refl
-
 -- ---- lengths
 
 pub length-clut : length clut ≡ 24
@@ -93,3 +89,7 @@ length-matrix = ap length matrix-is
 
 pub length-chad : length chad ≡ 9
 length-chad = ap length chad-is
+
+pub identityGamma-is : identityGamma ≡ pos 65536
+unfolding identityGamma s15Fixed16 ofBits
+identityGamma-is = refl

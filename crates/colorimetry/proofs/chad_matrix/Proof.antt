@@ -2,7 +2,7 @@
 use mathlib.Core.Path.{_≡_, sym, ap}
 use Rattle.buffer.specs.Checked.{is}
 use Rattle.colorimetry.specs.Adapt.{invalidWhitePoint, adaptToXyzD50, checkedAdaptation, chadMatrix}
-use Rattle.colorimetry.specs.OutputLaws.{outputs-value, outputs-refusal, expected-if}
+use Rattle.buffer.specs.OutputsLaws.{outputs-value, outputs-refusal, expected-if}
 use borrow.Author.Needs.{needs}
 use Rattle.colorimetry.proofs.chad_matrix.Statement.{statement}
 use Rattle.colorimetry.proofs.chad_matrix.Tie as tie

@@ -3,7 +3,7 @@ use mathlib.Core.Path.{_≡_, sym, ap}
 use Rattle.buffer.specs.Checked.{is}
 use Rattle.colorimetry.specs.Adapt.{invalidWhitePoint}
 use Rattle.colorimetry.specs.Primaries.{matrixInversionFailed, primariesToXyzD50, createIccRgbMatrix, checkedConversion}
-use Rattle.colorimetry.specs.OutputLaws.{outputs-value, outputs-refusal, expected-if}
+use Rattle.buffer.specs.OutputsLaws.{outputs-value, outputs-refusal, expected-if}
 use borrow.Author.Needs.{needs}
 use Rattle.colorimetry.proofs.create_icc_rgb_matrix.Statement.{statement}
 use Rattle.colorimetry.proofs.create_icc_rgb_matrix.Tie as tie

@@ -24,7 +24,18 @@ f32-to-f64-with-nan-requires-6 c κs = search needs
 
 returns : tie.Need-returns
 unfolding primariesMatrix
-returns c = cc
+returns c =
+    let gy = c .before .before in
+    let gx = gy .before in
+    let ry = gx .before in
+    simp (
+      ry .before .f32-to-f64-with-nan .ensures,
+      ry .f32-to-f64-with-nan2 .ensures,
+      gx .f32-to-f64-with-nan3 .ensures,
+      gy .f32-to-f64-with-nan4 .ensures,
+      c .before .f32-to-f64-with-nan5 .ensures,
+      c .f32-to-f64-with-nan6 .ensures,
+    )
 
 pub primaries-matrix-spec : {M : Type 1} → statement M
 primaries-matrix-spec =

@@ -1,57 +1,49 @@
--- `product_row` meets its contract: after j turns the first j components are there (`Filled`).
-use Prim.Native.Nat.{_-_}
-use lib.Ieee.{binary64, ofBits}
-use Rattle.linalg.specs.Linalg.{column, dot}
-use Rattle.linalg.specs.FillLaws.{Filled, fill, full}
+-- `product_row` meets its contract: each entry is the row times a column.
 use borrow.Author.Needs.{needs}
 use Rattle.linalg.proofs.product_row.Statement.{statement}
 use Rattle.linalg.proofs.product_row.Tie as tie
 
-abbrev Inv-loop : tie.InvT-loop
-Inv-loop row matrix result₀ j₀ result j = Filled (λ j. dot row (column matrix j)) (ofBits binary64 0) result j
-
-abbrev μ-loop : tie.MeasureT-loop
-μ-loop row matrix result₀ j₀ result j = 3 - j
-
-loop-holds : tie.Need-loop-holds Inv-loop μ-loop
-loop-holds c = search needs
-
-column-requires : tie.Need-column-requires Inv-loop μ-loop
+column-requires : tie.Need-column-requires
 column-requires c κs = search needs
 
-dot-requires : tie.Need-dot-requires Inv-loop μ-loop
+dot-requires : tie.Need-dot-requires
 dot-requires c κs = search needs
 
-mul-result : tie.Need-mul-result Inv-loop μ-loop
-mul-result c = search needs
+column-requires-2 : tie.Need-column-requires-2
+column-requires-2 c κs = search needs
 
-array-write-result : tie.Need-array-write-result Inv-loop μ-loop
-array-write-result c = search needs
+dot-requires-2 : tie.Need-dot-requires-2
+dot-requires-2 c κs = search needs
 
-add-j : tie.Need-add-j Inv-loop μ-loop
-add-j c = search needs
+column-requires-3 : tie.Need-column-requires-3
+column-requires-3 c κs = search needs
 
-loop-less : tie.Need-loop-less Inv-loop μ-loop
-loop-less c = search needs
+dot-requires-3 : tie.Need-dot-requires-3
+dot-requires-3 c κs = search needs
 
-loop-again : tie.Need-loop-again Inv-loop μ-loop
-loop-again c = fill (c .before .before .before .loop .inv) (c .before .before .loop-test .taken) (cc)
-
-returns : tie.Need-returns Inv-loop μ-loop
-returns c = full (c .before .loop .inv) (c .loop-test .left)
+returns : tie.Need-returns
+returns c =
+    let column3 = c .before in
+    let dot2 = column3 .before in
+    let column2 = dot2 .before in
+    let dot1 = column2 .before in
+    simp (
+      dot1 .dot .ensures,
+      dot2 .dot2 .ensures,
+      c .dot3 .ensures,
+      dot1 .before .column .ensures,
+      column2 .column2 .ensures,
+      column3 .column3 .ensures,
+    )
 
 pub product-row-spec : {M : Type 1} → statement M
 product-row-spec =
     tie.close
     (tie.spec
-    Inv-loop
-    μ-loop
-    loop-holds
     column-requires
     dot-requires
-    mul-result
-    array-write-result
-    add-j
-    loop-less
-    loop-again
+    column-requires-2
+    dot-requires-2
+    column-requires-3
+    dot-requires-3
     returns)
