@@ -1,4 +1,4 @@
-pub mod Split
-pub mod Rounded
+pub mod Point
+pub mod Units
 pub mod Doubling
 pub mod Value

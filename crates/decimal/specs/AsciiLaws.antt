@@ -8,7 +8,7 @@ use lib.Dec.{T, leb, ltb, leb→le, ltb→lt, lit≤}
 use lib.Ieee.{Float, nan, inf, fin, up, down, size}
 use lib.Ieee.Fits.{and-l, and-r}
 use lib.Ieee.Nearest.{closest}
-use Rattle.decimal.specs.Decimal.{digit, lastDigits, digitsUpTo, digits}
+use Rattle.digits.specs.Digits.{digit, lastDigits, digitsUpTo, digits}
 use Rattle.decimal.specs.Seven.{minus, withPoint, sevenDecimals}
 use Rattle.buffer.specs.Ascii.{Ascii}
 use Rattle.buffer.specs.All.{none, more}

@@ -1,5 +1,3 @@
-pub mod Decimal
-pub mod DecimalLaws
 pub mod Seven
 pub mod SevenLaws
 pub mod AsciiLaws

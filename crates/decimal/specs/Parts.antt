@@ -5,7 +5,7 @@ use mathlib.Core.List.{List, []}
 use mathlib.Core.Bool.{Bool, cond}
 use lib.Dec.{eqb}
 use Rattle.decimal.specs.declared.Parts.{Parts}
-use Rattle.decimal.specs.Decimal.{digits, lastDigits}
+use Rattle.digits.specs.Digits.{digits, lastDigits}
 
 abbrev pub valueOf : Parts → ℕ
 valueOf b = b .p0 + 10 ^ 8 * (b .p1 + 10 ^ 8 * (b .p2 + 10 ^ 8 * (b .p3 + 10 ^ 8 * b .p4)))

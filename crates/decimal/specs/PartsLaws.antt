@@ -9,8 +9,8 @@ use native.Mathlib.Omega.{arith}
 use borrow.Author.Tests.{lt-ltb, le-ltb, eq-eqb, ne-eqb}
 use lib.Dec.{ltb}
 use lib.ListN.{length}
-use Rattle.decimal.specs.Decimal.{digits, lastDigits}
-use Rattle.decimal.specs.DecimalLaws.{digits-append, some-digit, length-digits}
+use Rattle.digits.specs.Digits.{digits, lastDigits}
+use Rattle.digits.specs.DigitsLaws.{digits-append, some-digit, length-digits}
 use Rattle.buffer.specs.Puts.{PutsText}
 use Rattle.buffer.specs.PutsLaws.{then}
 use Rattle.decimal.specs.Parts.{shown, part}

@@ -6,7 +6,7 @@ use mathlib.Core.Bool.{Bool, cond}
 use lib.Ieee.{Float, nan, inf, fin, up, down}
 use lib.Ieee.Nearest.{closest}
 use Rattle.buffer.specs.Ascii.{ascii}
-use Rattle.decimal.specs.Decimal.{digits, lastDigits}
+use Rattle.digits.specs.Digits.{digits, lastDigits}
 
 -- "-" before a negative number; one that rounds to zero, and a negative zero, keep it
 abbrev pub minus : Bool → List ℕ

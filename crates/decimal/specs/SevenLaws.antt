@@ -16,7 +16,7 @@ use lib.Ieee.Nearest.{closest, closest-mono}
 use Rattle.buffer.specs.BoolLaws.{both-left}
 use Rattle.floats.specs.Binary32.{zero as zero32, one as one32}
 use Rattle.floats.specs.RoundingLaws.{closest-le}
-use Rattle.decimal.specs.DecimalLaws.{length-last, length-digits}
+use Rattle.digits.specs.DigitsLaws.{length-last, length-digits}
 use Rattle.decimal.specs.Seven.{minus, withPoint, sevenDecimals}
 
 -- ---- lengths

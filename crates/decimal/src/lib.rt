@@ -1,18 +1,20 @@
 // Floats printed to seven decimals, as Rust's `{:.7}` prints them, straight into a slice that the caller lends.
-// Digits come by multiplications, shifts, comparisons and subtractions: nothing is divided but by powers of two.
+// Nothing is divided but by powers of two.
 
 use buffer::put_bytes;
+use digits::put_eight;
+use digits::put_up_to_eight;
 use floats::rounding::nearest_shifted;
 ghost use mathlib.Core.Path.{_≡_};
 ghost use mathlib.Core.Bool.{not};
 ghost use mathlib.Core.List.{_++_, _∷_};
-ghost use Prim.Native.Nat.{_+_, _*_, _-_, _/_, _^_, _<_, _≤_};
+ghost use Prim.Native.Nat.{_+_, _*_, _-_, _^_, _<_, _≤_};
 ghost use lib.Dec.{eqb, ltb};
 ghost use lib.ListN.{length, replicate};
 ghost use lib.Ieee.{binary32};
 ghost use lib.Ieee.Nearest.{closest};
 ghost use Rattle.floats.specs.Fields.{significand};
-ghost use Rattle.decimal.specs.Decimal.{digits, lastDigits};
+ghost use Rattle.digits.specs.Digits.{digits, lastDigits};
 ghost use Rattle.buffer.specs.Puts.{PutsText};
 ghost use Rattle.decimal.specs.Seven.{minus, withPoint, sevenDecimals};
 ghost use Rattle.decimal.specs.Parts.{valueOf, Proper, part};
@@ -26,6 +28,12 @@ struct Parts {
     p0: u64,
 }
 
+// A number of seven decimals: its whole part, and the decimals.
+struct Fixed {
+    whole: u64,
+    decimals: u64,
+}
+
 // A part and what goes over into the next.
 struct Carried {
     part: u64,
@@ -36,91 +44,6 @@ struct Carried {
 pub struct Decimals {
     pub bytes: [u8; 48],
     pub len: usize,
-}
-
-// Two digits. n * 103 / 1024 is n / 10 for these n.
-fn put_two(out: &mut [u8], at: usize, n: u64) -> usize
-    requires { ⌜ (n < 100) × (at + 2 ≤ length (now out)) ⌝ }
-    ensures { λ r. ⌜ PutsText (now (out .entry)) at (lastDigits 2 n) r (now (out .exit)) ⌝ }
-{
-    let tens = (n * 103) >> 10;
-    out[at] = (48 + tens) as u8;
-    out[at + 1] = (48 + (n - tens * 10)) as u8;
-    at + 2
-}
-
-// n / 100, as n * 5243 / 2^19.
-fn hundreds(n: u64) -> u64
-    requires { ⌜ n < 10 ^ 4 ⌝ }
-    ensures { λ r. ⌜ r ≡ n / 100 ⌝ }
-{
-    (n * 5243) >> 19
-}
-
-// n / 10000, as n * 109951163 / 2^40.
-fn ten_thousands(n: u64) -> u64
-    requires { ⌜ n < 10 ^ 8 ⌝ }
-    ensures { λ r. ⌜ r ≡ n / 10 ^ 4 ⌝ }
-{
-    (n * 109951163) >> 40
-}
-
-// Four digits.
-fn put_four(out: &mut [u8], at: usize, n: u64) -> usize
-    requires { ⌜ (n < 10 ^ 4) × (at + 4 ≤ length (now out)) ⌝ }
-    ensures { λ r. ⌜ PutsText (now (out .entry)) at (lastDigits 4 n) r (now (out .exit)) ⌝ }
-{
-    let high = hundreds(n);
-    let i = put_two(&mut *out, at, high);
-    put_two(&mut *out, i, n - high * 100)
-}
-
-// Eight digits.
-fn put_eight(out: &mut [u8], at: usize, n: u64) -> usize
-    requires { ⌜ (n < 10 ^ 8) × (at + 8 ≤ length (now out)) ⌝ }
-    ensures { λ r. ⌜ PutsText (now (out .entry)) at (lastDigits 8 n) r (now (out .exit)) ⌝ }
-{
-    let high = ten_thousands(n);
-    let i = put_four(&mut *out, at, high);
-    put_four(&mut *out, i, n - high * 10000)
-}
-
-// n without leading zeros: one digit or two.
-fn put_up_to_two(out: &mut [u8], at: usize, n: u64) -> usize
-    requires { ⌜ (n < 100) × (at + 2 ≤ length (now out)) ⌝ }
-    ensures { λ r. ⌜ PutsText (now (out .entry)) at (digits n) r (now (out .exit)) ⌝ }
-{
-    if n < 10 {
-        out[at] = (48 + n) as u8;
-        return at + 1;
-    }
-    put_two(out, at, n)
-}
-
-// n without leading zeros: up to four digits.
-pub fn put_up_to_four(out: &mut [u8], at: usize, n: u64) -> usize
-    requires { ⌜ (n < 10 ^ 4) × (at + 4 ≤ length (now out)) ⌝ }
-    ensures { λ r. ⌜ PutsText (now (out .entry)) at (digits n) r (now (out .exit)) ⌝ }
-{
-    if n < 100 {
-        return put_up_to_two(out, at, n);
-    }
-    let high = hundreds(n);
-    let i = put_up_to_two(&mut *out, at, high);
-    put_two(&mut *out, i, n - high * 100)
-}
-
-// n without leading zeros: up to eight digits.
-fn put_up_to_eight(out: &mut [u8], at: usize, n: u64) -> usize
-    requires { ⌜ (n < 10 ^ 8) × (at + 8 ≤ length (now out)) ⌝ }
-    ensures { λ r. ⌜ PutsText (now (out .entry)) at (digits n) r (now (out .exit)) ⌝ }
-{
-    if n < 10000 {
-        return put_up_to_four(out, at, n);
-    }
-    let high = ten_thousands(n);
-    let i = put_up_to_four(&mut *out, at, high);
-    put_four(&mut *out, i, n - high * 10000)
 }
 
 // The point and seven decimals: eight digits, of which the first gives its place to the point.
@@ -142,21 +65,36 @@ fn put_with_point(out: &mut [u8], at: usize, whole: u64, rest: u64) -> usize
     put_decimals(&mut *out, i, rest)
 }
 
-// m / 2^d to seven decimals, for a value with a fraction. From d = 49 on it is less than half of the last decimal.
+// m / 2^d to seven decimals. From d = 49 on it is less than half of the last decimal.
+fn rounded(m: u64, d: u64) -> Fixed
+    requires { ⌜ m < 2 ^ 24 ⌝ }
+    ensures { λ r. ⌜ ((r .whole < 10 ^ 8) × (r .decimals < 10 ^ 7)) × (closest (m * 10 ^ 7) (2 ^ d) ≡ r .whole * 10 ^ 7 + r .decimals) ⌝ }
+{
+    if 48 < d {
+        return Fixed {
+            whole: 0,
+            decimals: 0,
+        };
+    }
+    let q = nearest_shifted(m * 10000000, d);
+    let whole = m >> d;
+    let decimals = q - whole * 10000000;
+    if decimals == 10000000 {
+        return Fixed {
+            whole: whole + 1,
+            decimals: 0,
+        };
+    }
+    Fixed { whole, decimals }
+}
+
+// m / 2^d, for a value with a fraction.
 fn put_fraction(out: &mut [u8], at: usize, m: u64, d: u64) -> usize
     requires { ⌜ (m < 2 ^ 24) × (at + 16 ≤ length (now out)) ⌝ }
     ensures { λ r. ⌜ PutsText (now (out .entry)) at (withPoint (closest (m * 10 ^ 7) (2 ^ d))) r (now (out .exit)) ⌝ }
 {
-    if 48 < d {
-        return put_with_point(out, at, 0, 0);
-    }
-    let q = nearest_shifted(m * 10000000, d);
-    let whole = m >> d;
-    let rest = q - whole * 10000000;
-    if rest == 10000000 {
-        return put_with_point(out, at, whole + 1, 0);
-    }
-    put_with_point(out, at, whole, rest)
+    let r = rounded(m, d);
+    put_with_point(out, at, r.whole, r.decimals)
 }
 
 // 2 * part + carry, by its last eight digits and the one before.

@@ -1,1 +1,2 @@
-pub mod Common
+pub mod End
+pub mod HeldValues

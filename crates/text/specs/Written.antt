@@ -16,12 +16,6 @@ pub record Short (Asked : Type 0) (text : List ℕ) : Type 0 where
   pub any : length text ≤ 449
   pub accepted : Asked → length text ≤ 372
 
--- a part of at most n bytes, put at a place; what is held are its floats
-pub record PutsPart (n : ℕ) (Floats : Type 0) (l : List ℕ) (at : ℕ) (part : List ℕ) (r : ℕ) (out : List ℕ) : Type 0 where
-  pub puts : PutsText l at part r out
-  pub most : r ≤ at + n
-  pub held : Floats
-
 -- a whole text, put to the front
 pub record PutsDescription (Asked : Type 0) (text l : List ℕ) (r : ℕ) (out : List ℕ) : Type 0 where
   pub puts : PutsText l 0 text r out

@@ -5,9 +5,9 @@ use mathlib.Core.List.{List}
 use native.Mathlib.Omega.{arith}
 use lib.ListN.{set}
 use Rattle.buffer.specs.Buffer.{put}
-use Rattle.decimal.specs.Decimal.{lastDigits}
-use Rattle.decimal.specs.DecimalLaws.{length-last, last-cons}
-use Rattle.decimal.proofs.Split.{over-first}
+use Rattle.digits.specs.Digits.{lastDigits}
+use Rattle.digits.specs.DigitsLaws.{length-last, last-cons}
+use Rattle.buffer.specs.BufferLaws.{set-put}
 use borrow.Author.Needs.{needs}
 use Rattle.decimal.proofs.put_decimals.Statement.{statement}
 use Rattle.decimal.proofs.put_decimals.Tie as tie
@@ -33,7 +33,7 @@ returns c =
       place = omega (arith, call .put-eight .ensures .place, length-last 8 n, length-last 7 n);
       bytes =
           ap (λ (x : List _). set x at 46) (call .put-eight .ensures .bytes ∙ ap (put l at) (last-cons 7 n (start .pre .0)))
-          ∙ over-first l (lastDigits 7 n) at 48 46 (omega arith);
+          ∙ set-put l (lastDigits 7 n) at 48 46 (omega arith);
     }
 
 pub put-decimals-spec : {M : Type 1} → statement M

@@ -6,7 +6,7 @@ use native.Mathlib.Omega.{arith}
 use native.Mathlib.Nat.{le-trans, le-add-right}
 use lib.Dec.{lit≤}
 use lib.ListN.{length}
-use Rattle.decimal.specs.Decimal.{digits}
+use Rattle.digits.specs.Digits.{digits}
 use Rattle.decimal.specs.Parts.{shown, valueOf}
 use Rattle.decimal.specs.PartsLaws.{next-part, shown-none, shown-some, length-shown}
 use Rattle.buffer.specs.Puts.{PutsText}

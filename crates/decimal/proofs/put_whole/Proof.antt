@@ -7,13 +7,13 @@ use native.Mathlib.Nat.{lt-of-le-of-lt, lt-of-lt-of-le, le-of-eq, mul-pos, add-z
 use native.Mathlib.Omega.{arith}
 use lib.Dec.{lit<, lit≤}
 use lib.Pow.{shl-lt, pow-mono, pow-pos}
-use Rattle.decimal.specs.Decimal.{digits, lastDigits}
-use Rattle.decimal.specs.DecimalLaws.{length-digits}
+use Rattle.digits.specs.Digits.{digits, lastDigits}
+use Rattle.digits.specs.DigitsLaws.{length-digits}
 use Rattle.decimal.specs.Parts.{valueOf}
 use Rattle.decimal.specs.Seven.{withPoint}
 use Rattle.buffer.specs.PutsLaws.{then}
 use Rattle.decimal.proofs.Doubling.{top}
-use Rattle.decimal.proofs.Split.{withPoint-is}
+use Rattle.decimal.proofs.Point.{withPoint-is}
 use borrow.Author.Needs.{needs}
 use Rattle.decimal.proofs.put_whole.Statement.{statement}
 use Rattle.decimal.proofs.put_whole.Tie as tie

@@ -1,10 +1,10 @@
 -- The whole part, then the point and the decimals: the law `withPoint-is`.
 -- Assumes nothing.
 use native.Mathlib.Omega.{arith}
-use Rattle.decimal.specs.DecimalLaws.{length-digits}
+use Rattle.digits.specs.DigitsLaws.{length-digits}
 use Rattle.decimal.specs.Seven.{withPoint}
 use Rattle.buffer.specs.PutsLaws.{then}
-use Rattle.decimal.proofs.Split.{withPoint-is}
+use Rattle.decimal.proofs.Point.{withPoint-is}
 use borrow.Author.Needs.{needs}
 use Rattle.decimal.proofs.put_with_point.Statement.{statement}
 use Rattle.decimal.proofs.put_with_point.Tie as tie

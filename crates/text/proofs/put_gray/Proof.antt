@@ -1,39 +1,23 @@
--- Six runs of bytes, one after another.
+-- Two runs of bytes, one after the other.
 -- Assumes nothing.
-use Prim.Native.Nat.{_≤_}
-use mathlib.Core.Path.{refl}
-use mathlib.Core.List.{[], _∷_}
+use mathlib.Core.List.{[], _∷_, _++_}
 use native.Mathlib.Omega.{arith}
 use native.Mathlib.Nat.{le-trans}
 use lib.Dec.{lit≤}
-use lib.ListN.{length}
-use Rattle.buffer.specs.PutsLaws.{then, wrote}
+use Rattle.buffer.specs.PutsLaws.{then}
 use Rattle.text.specs.BoundsLaws.{short, length-gray-text}
-use Rattle.text.specs.Description.{underscore, grayText}
+use Rattle.text.specs.Description.{grayText, whiteName, transferName}
+use Rattle.color_encoding.specs.Intent.{intentName}
+use Rattle.text.proofs.End.{before-end}
 use borrow.Author.Needs.{needs}
 use Rattle.text.proofs.put_gray.Statement.{statement}
 use Rattle.text.proofs.put_gray.Tie as tie
 
-slice-aggregate-put-bytes : tie.Need-slice-aggregate-put-bytes
-slice-aggregate-put-bytes c = search needs
+put-space-requires : tie.Need-put-space-requires
+put-space-requires c κs = search needs
 
-put-bytes-requires : tie.Need-put-bytes-requires
-put-bytes-requires c κs = search needs
-
-put-white-requires : tie.Need-put-white-requires
-put-white-requires c κs = search needs
-
-put-byte-requires : tie.Need-put-byte-requires
-put-byte-requires c κs = search needs
-
-put-intent-requires : tie.Need-put-intent-requires
-put-intent-requires c κs = search needs
-
-put-byte-requires-2 : tie.Need-put-byte-requires-2
-put-byte-requires-2 c κs = search needs
-
-put-transfer-requires : tie.Need-put-transfer-requires
-put-transfer-requires c κs = search needs
+put-end-requires : tie.Need-put-end-requires
+put-end-requires c κs = search needs
 
 same-length : tie.Need-same-length
 same-length c = search needs
@@ -41,35 +25,18 @@ same-length c = search needs
 returns : tie.Need-returns
 unfolding grayText
 returns c =
-    let e6 = c .before .before in
-    let e5 = e6 .before .before .before .before in
-    let e4 = e5 .before .before .before .before in
-    let e3 = e4 .before .before .before .before in
-    let e2 = e3 .before .before .before .before in
+    let e2 = c .before .before in
     let e1 = e2 .before .before .before .before in
     let s = e1 .before .before .before .before in
-    let l = s .args .out .now in
-    let room : 0 ≤ length l = omega arith in
-    let name = wrote l 0 (71 ∷ 114 ∷ 97 ∷ 95 ∷ []) (e1 .put-bytes .ensures) in
-    let white = then _ room name (e2 .put-white .ensures .puts) refl in
-    let white-end = then _ room white (wrote _ (e2 .put-white .result) underscore (e3 .put-byte .ensures)) refl in
-    let intent = then _ room white-end (e4 .put-intent .ensures) refl in
-    let intent-end = then _ room intent (wrote _ (e4 .put-intent .result) underscore (e5 .put-byte2 .ensures)) refl in
+    let w = s .args .white in
+    let t = s .args .transfer in
+    let i = s .args .intent in
+    let white = e1 .put-space .ensures in
+    let end = e2 .put-end .ensures in
     record {
-      puts = then (grayText (s .args .white) (s .args .transfer) (s .args .intent)) room intent-end (e6 .put-transfer .ensures .puts) refl;
-      short = short (le-trans (length-gray-text (s .args .white) (s .args .transfer) (s .args .intent) (e2 .put-white .ensures .held) (e6 .put-transfer .ensures .held)) (lit≤ tt));
+      puts = then (grayText w t i) (omega arith) (white .puts) (end .puts) (before-end ((71 ∷ 114 ∷ 97 ∷ 95 ∷ []) ++ whiteName w) (intentName i) (transferName t));
+      short = short (le-trans (length-gray-text w t i (white .held) (end .held)) (lit≤ tt));
     }
 
 pub put-gray-spec : {M : Type 1} → statement M
-put-gray-spec =
-    tie.close
-    (tie.spec
-    slice-aggregate-put-bytes
-    put-bytes-requires
-    put-white-requires
-    put-byte-requires
-    put-intent-requires
-    put-byte-requires-2
-    put-transfer-requires
-    same-length
-    returns)
+put-gray-spec = tie.close (tie.spec put-space-requires put-end-requires same-length returns)
