@@ -7,7 +7,7 @@ use native.Mathlib.Numerals.{add-one}
 use native.Mathlib.Omega.{arith}
 use lib.ListN.{length, take, getD}
 use lib.Seq.{take-suc, take-all}
-use Rattle.numbers.specs.Words.{be16, be32, twosComplement32}
+use Rattle.words.specs.Words.{be16, be32, twosComplement32}
 use Rattle.buffer.specs.Puts.{Puts}
 use Rattle.buffer.specs.PutsLaws.{none, joined}
 use Rattle.profile.specs.TagTypes.{s15Fixed16s, uInt16s, utf16}

@@ -3,7 +3,7 @@ use Prim.Native.Nat.{ℕ, _+_, _*_, _%_}
 use mathlib.Core.Path.{_≡_, refl, ap, sym, _∙_}
 use mathlib.Core.List.{List, [], _∷_, _++_, append-assoc, append-nil}
 use lib.ListN.{length}
-use Rattle.numbers.specs.Words.{be32}
+use Rattle.words.specs.Words.{be32}
 use Rattle.buffer.specs.Ascii.{ascii}
 use Rattle.buffer.specs.Bytes.{zeros}
 use Rattle.buffer.specs.Puts.{Puts}
@@ -23,7 +23,7 @@ join-snoc [] q = append-nil q
 join-snoc (p ∷ qs) q = ap (λ (l : List ℕ). p ++ l) (join-snoc qs q) ∙ sym (append-assoc p (join qs) q)
 
 -- the first parts as one, with those that follow
-pub first-joined : (qs rs : List (List ℕ)) → join (join qs ∷ rs) ≡ join (qs ++ rs)
+first-joined : (qs rs : List (List ℕ)) → join (join qs ∷ rs) ≡ join (qs ++ rs)
 unfolding join
 first-joined [] rs = refl
 first-joined (q ∷ qs) rs = append-assoc q (join qs) (join rs) ∙ ap (λ (l : List ℕ). q ++ l) (first-joined qs rs)

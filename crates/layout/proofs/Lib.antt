@@ -1,4 +1,2 @@
 pub mod Finish
-pub mod Front
-pub mod HeaderParts
 pub mod KindParts

@@ -3,7 +3,7 @@
 use Prim.Native.Nat.{ℕ, _+_, _*_, _%_, _-_}
 use mathlib.Core.List.{List, [], _∷_, _++_, map}
 use lib.ListN.{length, replicate}
-use Rattle.numbers.specs.Words.{be32}
+use Rattle.words.specs.Words.{be32}
 
 -- an element: the signatures of the tags that name it, and its bytes, padding left out
 pub record Element : Type 0 where
@@ -68,14 +68,27 @@ unfoldable pub entriesBytes : List Entry → List ℕ
 entriesBytes [] = []
 entriesBytes (e ∷ es) = entryBytes e ++ entriesBytes es
 
--- where the elements start: past the 128 bytes of the header and the table
+-- the bytes of a header (7.2), of the tag count and of a line of the tag table (7.3)
+abbrev pub headerSize : ℕ
+headerSize = 128
+
+abbrev pub countSize : ℕ
+countSize = 4
+
+abbrev pub lineSize : ℕ
+lineSize = 12
+
+-- where line i of the table starts, and, where it has i lines, the first element
+abbrev pub lineStart : ℕ → ℕ
+lineStart i = headerSize + countSize + lineSize * i
+
 unfoldable pub start : List Slot → ℕ
-start ss = 132 + 12 * tagCount ss
+start ss = lineStart (tagCount ss)
 
 unfoldable pub table : List Slot → List ℕ
 table ss = be32 (tagCount ss) ++ entriesBytes (entries (start ss) ss)
 
--- ---- the file under a header of 128 bytes
+-- ---- the file under a header of `headerSize` bytes
 
 unfoldable pub file : List ℕ → List Element → List ℕ
 file header es = header ++ (table (map slot es) ++ body es)

@@ -5,7 +5,7 @@ use mathlib.Core.List.{List, [], _∷_, _++_, map, append-nil, append-assoc}
 use native.Mathlib.Nat.{add-zero, add-assoc}
 use native.Mathlib.Omega.{arith}
 use lib.ListN.{length, length-append, length-replicate, length-map}
-use Rattle.numbers.specs.WordsLaws.{length-be32}
+use Rattle.words.specs.WordsLaws.{length-be32}
 use Rattle.buffer.specs.All.{All, none, more}
 use Rattle.buffer.specs.AllLaws.{All-append, All-map}
 use Rattle.profile.specs.Elements
@@ -35,7 +35,7 @@ Four s = length s ≡ 4
 abbrev pub Fours : List Elements.Slot → Type 0
 Fours = All (λ (s : Elements.Slot). All Four (s .signatures))
 
-pub entries-four : (at : ℕ) (ss : List Elements.Slot) → Fours ss → All (λ (e : Elements.Entry). Four (e .signature)) (Elements.entries at ss)
+entries-four : (at : ℕ) (ss : List Elements.Slot) → Fours ss → All (λ (e : Elements.Entry). Four (e .signature)) (Elements.entries at ss)
 unfolding Elements.entries
 entries-four at [] none = none
 entries-four at (s ∷ ss) (more f fs) = All-append (All-map (Elements.entry at (s .size)) (λ x h. h) f) (entries-four _ ss fs)
@@ -49,7 +49,7 @@ pub length-entryBytes : (e : Elements.Entry) → Four (e .signature) → length 
 unfolding Elements.entryBytes
 length-entryBytes e h = simp (length-append, length-be32, h)
 
-pub length-entriesBytes : (es : List Elements.Entry) → All (λ (e : Elements.Entry). Four (e .signature)) es → length (Elements.entriesBytes es) ≡ 12 * length es
+length-entriesBytes : (es : List Elements.Entry) → All (λ (e : Elements.Entry). Four (e .signature)) es → length (Elements.entriesBytes es) ≡ 12 * length es
 unfolding Elements.entriesBytes
 length-entriesBytes [] none = refl
 length-entriesBytes (e ∷ es) (more h hs) =
@@ -65,22 +65,17 @@ pub map-append : {A B : Type 0} (f : A → B) (a b : List A) → map f (a ++ b) 
 map-append f [] b = refl
 map-append f (x ∷ a) b = ap (λ l. f x ∷ l) (map-append f a b)
 
-pub entriesBytes-append : (a b : List Elements.Entry) → Elements.entriesBytes (a ++ b) ≡ Elements.entriesBytes a ++ Elements.entriesBytes b
+entriesBytes-append : (a b : List Elements.Entry) → Elements.entriesBytes (a ++ b) ≡ Elements.entriesBytes a ++ Elements.entriesBytes b
 unfolding Elements.entriesBytes
 entriesBytes-append [] b = refl
 entriesBytes-append (e ∷ a) b = ap (λ l. Elements.entryBytes e ++ l) (entriesBytes-append a b) ∙ sym (append-assoc (Elements.entryBytes e) _ _)
 
-pub entries-append : (at : ℕ) (a b : List Elements.Slot) → Elements.entries at (a ++ b) ≡ Elements.entries at a ++ Elements.entries (at + Elements.bodySize a) b
+entries-append : (at : ℕ) (a b : List Elements.Slot) → Elements.entries at (a ++ b) ≡ Elements.entries at a ++ Elements.entries (at + Elements.bodySize a) b
 unfolding Elements.entries Elements.bodySize
 entries-append at [] b = rw (add-zero at)
 entries-append at (s ∷ a) b =
     rw (entries-append (at + Elements.paddedSize (s .size)) a b, add-assoc at (Elements.paddedSize (s .size)) (Elements.bodySize a))
     (sym (append-assoc (map (Elements.entry at (s .size)) (s .signatures)) _ _))
-
--- the lines of elements from an offset on
-pub lines-append : (at : ℕ) (a b : List Elements.Slot)
-    → Elements.entriesBytes (Elements.entries at (a ++ b)) ≡ Elements.entriesBytes (Elements.entries at a) ++ Elements.entriesBytes (Elements.entries (at + Elements.bodySize a) b)
-lines-append at a b = ap Elements.entriesBytes (entries-append at a b) ∙ entriesBytes-append _ _
 
 pub body-append : (a b : List Elements.Element) → Elements.body (a ++ b) ≡ Elements.body a ++ Elements.body b
 unfolding Elements.body

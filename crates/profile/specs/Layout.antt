@@ -4,7 +4,7 @@ use Prim.Native.Nat.{ℕ}
 use mathlib.Core.List.{List, [], _∷_, _++_, map}
 use lib.ListN.{take, drop}
 use lib.IntN.{ℤ, pos}
-use Rattle.numbers.specs.Words.{be16, be32}
+use Rattle.words.specs.Words.{be16, be32}
 use Rattle.buffer.specs.Bytes.{zeros}
 use Rattle.buffer.specs.Ascii.{ascii}
 use Rattle.md5.specs.Md5.{md5}
@@ -64,6 +64,16 @@ abbrev pub slots : Plan → List Slot
 slots p = map slot (elements p)
 
 -- ---- the header (7.2)
+
+-- where the intent and the id stand
+abbrev pub intentAt : ℕ
+intentAt = 64
+
+abbrev pub idAt : ℕ
+idAt = 84
+
+abbrev pub idSize : ℕ
+idSize = 16
 
 -- what of a header its kind does not fix
 pub record Varying : Type 0 where

@@ -1,65 +1,111 @@
 -- Laws of the layout: how long it is, what its file is with the three fields blank, and that the intent and the id go in last.
 -- Assumes nothing.
-use Prim.Native.Nat.{ℕ, _≤_}
+use Prim.Native.Nat.{ℕ, _+_, _≤_}
 use mathlib.Core.Path.{_≡_, refl, ap, sym, _∙_}
 use mathlib.Core.List.{List, [], _++_, append-assoc, append-nil}
-use lib.ListN.{length, length-append}
-use lib.Seq.{drop-at}
+use lib.ListN.{length, length-append, take, drop}
+use lib.Seq.{take-at, drop-at, drop-drop}
 use lib.IntN.{ℤ}
-use Rattle.numbers.specs.Words.{be16, be32}
+use Rattle.words.specs.Words.{be32}
 use Rattle.buffer.specs.Bytes.{zeros}
-use Rattle.numbers.specs.WordsLaws.{length-be16, length-be32}
+use Rattle.words.specs.WordsLaws.{length-be16, length-be32, be32-zero}
 use Rattle.buffer.specs.Buffer.{put}
+use Rattle.buffer.specs.BufferLaws.{put-over}
 use Rattle.md5.specs.Md5.{md5}
 use Rattle.md5.specs.Md5Laws.{length-md5}
-use Rattle.profile.specs.Elements.{file, fileLength, start, tagCount, bodySize, padding}
+use Rattle.profile.specs.Elements.{headerSize, file, fileLength, start, tagCount, bodySize, padding}
 use Rattle.profile.specs.ElementsLaws.{Fours, length-file}
 use Rattle.profile.specs.Plan.{Plan, kind, Good}
 use Rattle.profile.specs.declared.Kind.{Kind}
 use Rattle.profile.specs.declared.Kind.the-variants.{Gray, Rgb, Xyb}
+use Rattle.profile.specs.Signatures as Sig
 use Rattle.profile.specs.TagTypes.{join, s15Fixed16s}
 use Rattle.profile.specs.Layout
-use Rattle.profile.specs.Shape.{shape, slotsOf, maxLength}
+use Rattle.profile.specs.Shape.{shape, slotsOf, minLength, maxLength}
 use Rattle.profile.specs.TagTypesLaws.{length-s15Fixed16s}
 use Rattle.profile.specs.PlanLaws.{Nines, good-nines, slots-shape, good-shape}
 use Rattle.profile.specs.PlanLaws as PlanLaws
 
 -- ---- the header
 
-pub length-header : (k : Kind) (v : Layout.Varying) → length (v .id) ≡ 16 → length (Layout.header k v) ≡ 128
-unfolding Layout.header join
-length-header Gray v h = simp (length-append, length-be16, length-be32, length-s15Fixed16s, h)
-length-header Rgb v h = simp (length-append, length-be16, length-be32, length-s15Fixed16s, h)
-length-header Xyb v h = simp (length-append, length-be16, length-be32, length-s15Fixed16s, h)
+length-front : (k : Kind) → length (Layout.front k) ≡ 40
+unfolding join
+length-front Gray = simp (length-append, length-be16)
+length-front Rgb = simp (length-append, length-be16)
+length-front Xyb = simp (length-append, length-be16)
 
--- once the kind is known a header computes, up to its id
+-- what stands before the flags, and between intent and id
+beforeFlags : Kind → ℕ → List ℕ
+beforeFlags k n = be32 n ++ Layout.front k
+
+abbrev beforeId : List ℕ
+beforeId = s15Fixed16s Layout.D50 ++ Sig.jxl
+
+length-beforeFlags : (k : Kind) (n : ℕ) → length (beforeFlags k n) ≡ 44
+unfolding beforeFlags
+length-beforeFlags k n = rw (length-append, length-be32, length-front k) refl
+
+length-beforeId : length beforeId ≡ 16
+length-beforeId = simp (length-append, length-s15Fixed16s)
+
+parts : (k : Kind) (v : Layout.Varying) (r : List ℕ)
+    → Layout.header k v ++ r ≡ beforeFlags k (v .size) ++ (zeros 4 ++ (zeros 16 ++ (be32 (v .intent) ++ (beforeId ++ (v .id ++ (zeros 28 ++ r))))))
+unfolding Layout.header join beforeFlags
+parts k v r = simp (append-assoc, append-nil)
+
+pub length-header : (k : Kind) (v : Layout.Varying) → length (v .id) ≡ 16 → length (Layout.header k v) ≡ headerSize
+length-header k v h =
+    ap length (sym (append-nil (Layout.header k v)) ∙ parts k v [])
+    ∙ simp (length-append, length-beforeFlags, length-be32, length-s15Fixed16s, h)
+
+past-two : (a b r : List ℕ) (n m : ℕ) → length a ≡ n → length b ≡ m → drop (n + m) (a ++ (b ++ r)) ≡ r
+past-two a b r n m la lb = sym (drop-drop m n (a ++ (b ++ r))) ∙ ap (drop m) (drop-at a (b ++ r) n la) ∙ drop-at b r m lb
+
+-- six parts of these lengths, and what follows, with the second, the fourth and the sixth blank
+blank : (a b c d e g r : List ℕ) → length a ≡ 44 → length b ≡ 4 → length c ≡ 16 → length d ≡ 4 → length e ≡ 16 → length g ≡ 16
+    → Layout.blanked (a ++ (b ++ (c ++ (d ++ (e ++ (g ++ r)))))) ≡ a ++ (zeros 4 ++ (c ++ (zeros 4 ++ (e ++ (zeros 16 ++ r)))))
+unfolding Layout.blanked join
+blank a b c d e g r la lb lc ld le lg =
+    let f : List ℕ = a ++ (b ++ (c ++ (d ++ (e ++ (g ++ r))))) in
+    let at-c : drop 48 f ≡ c ++ (d ++ (e ++ (g ++ r))) = past-two a b (c ++ (d ++ (e ++ (g ++ r)))) 44 4 la lb in
+    let at-e : drop 68 f ≡ e ++ (g ++ r) = sym (drop-drop 20 48 f) ∙ ap (drop 20) at-c ∙ past-two c d (e ++ (g ++ r)) 16 4 lc ld in
+    let at-r : drop 100 f ≡ r = sym (drop-drop 32 68 f) ∙ ap (drop 32) at-e ∙ past-two e g r 16 16 le lg in
+    rw (at-c, at-e, at-r, take-at a (b ++ (c ++ (d ++ (e ++ (g ++ r))))) 44 la, take-at c (d ++ (e ++ (g ++ r))) 16 lc, take-at e (g ++ r) 16 le) (simp append-nil)
+
 header-blanked : (k : Kind) (v : Layout.Varying) (r : List ℕ) → length (v .id) ≡ 16
     → Layout.blanked (Layout.header k v ++ r) ≡ Layout.header k (record { size = v .size; intent = 0; id = zeros 16 }) ++ r
-unfolding Layout.header join s15Fixed16s be16 be32 Layout.blanked
-header-blanked Gray v r h = rw (append-assoc (v .id) (zeros 28 ++ []) r, drop-at (v .id) (zeros 28 ++ [] ++ r) 16 h) (simp append-nil)
-header-blanked Rgb v r h = rw (append-assoc (v .id) (zeros 28 ++ []) r, drop-at (v .id) (zeros 28 ++ [] ++ r) 16 h) (simp append-nil)
-header-blanked Xyb v r h = rw (append-assoc (v .id) (zeros 28 ++ []) r, drop-at (v .id) (zeros 28 ++ [] ++ r) 16 h) (simp append-nil)
+header-blanked k v r h =
+    ap Layout.blanked (parts k v r)
+    ∙ blank (beforeFlags k (v .size)) (zeros 4) (zeros 16) (be32 (v .intent)) beforeId (v .id) _ (length-beforeFlags k (v .size)) refl refl (length-be32 (v .intent)) length-beforeId h
+    ∙ sym (parts k (record { size = v .size; intent = 0; id = zeros 16 }) r ∙ ap (λ (z : List ℕ). beforeFlags k (v .size) ++ (zeros 4 ++ (zeros 16 ++ (z ++ (beforeId ++ (zeros 16 ++ (zeros 28 ++ r))))))) be32-zero)
 
 pub header-put-intent : (k : Kind) (n i j : ℕ) (d r : List ℕ)
     → put (Layout.header k (record { size = n; intent = i; id = d }) ++ r) 64 (be32 j) ≡ Layout.header k (record { size = n; intent = j; id = d }) ++ r
-unfolding put Layout.header join s15Fixed16s be16 be32
-header-put-intent Gray n i j d r = refl
-header-put-intent Rgb n i j d r = refl
-header-put-intent Xyb n i j d r = refl
+header-put-intent k n i j d r =
+    let before : List ℕ = beforeFlags k n ++ (zeros 4 ++ zeros 16) in
+    let rest : List ℕ = beforeId ++ (d ++ (zeros 28 ++ r)) in
+    let up-to : (m : ℕ) → Layout.header k (record { size = n; intent = m; id = d }) ++ r ≡ before ++ (be32 m ++ rest) =
+    λ m. parts k (record { size = n; intent = m; id = d }) r ∙ simp append-assoc in
+    ap (λ (l : List ℕ). put l 64 (be32 j)) (up-to i)
+    ∙ put-over before (be32 i) rest (be32 j) 64 (rw (length-append, length-beforeFlags k n) refl) (length-be32 j ∙ sym (length-be32 i))
+    ∙ sym (up-to j)
 
 pub header-put-id : (k : Kind) (n i : ℕ) (d e r : List ℕ) → length d ≡ 16 → length e ≡ 16
     → put (Layout.header k (record { size = n; intent = i; id = d }) ++ r) 84 e ≡ Layout.header k (record { size = n; intent = i; id = e }) ++ r
-unfolding put Layout.header join s15Fixed16s be16 be32
-header-put-id Gray n i d e r h g = rw (g, append-assoc d (zeros 28 ++ []) r, drop-at d (zeros 28 ++ [] ++ r) 16 h) (simp append-assoc)
-header-put-id Rgb n i d e r h g = rw (g, append-assoc d (zeros 28 ++ []) r, drop-at d (zeros 28 ++ [] ++ r) 16 h) (simp append-assoc)
-header-put-id Xyb n i d e r h g = rw (g, append-assoc d (zeros 28 ++ []) r, drop-at d (zeros 28 ++ [] ++ r) 16 h) (simp append-assoc)
+header-put-id k n i d e r h g =
+    let before : List ℕ = beforeFlags k n ++ (zeros 4 ++ (zeros 16 ++ (be32 i ++ beforeId))) in
+    let up-to : (m : List ℕ) → Layout.header k (record { size = n; intent = i; id = m }) ++ r ≡ before ++ (m ++ (zeros 28 ++ r)) =
+    λ m. parts k (record { size = n; intent = i; id = m }) r ∙ simp append-assoc in
+    ap (λ (l : List ℕ). put l 84 e) (up-to d)
+    ∙ put-over before d (zeros 28 ++ r) e 84 (simp (length-append, length-beforeFlags, length-be32, length-s15Fixed16s)) (g ∙ sym h)
+    ∙ sym (up-to e)
 
 -- ---- the length of a plan's file
 
 pub plan-fours : (p : Plan) → Nines (p .content) → Fours (Layout.slots p)
 plan-fours p h = rw (slots-shape p h) (PlanLaws.fours (shape p))
 
-pub length-withId : (p : Plan) → Nines (p .content) → (id : List ℕ) → length id ≡ 16 → length (Layout.withId id p) ≡ fileLength (slotsOf (shape p))
+length-withId : (p : Plan) → Nines (p .content) → (id : List ℕ) → length id ≡ 16 → length (Layout.withId id p) ≡ fileLength (slotsOf (shape p))
 unfolding Layout.withId
 length-withId p h id e =
     length-file _ (Layout.elements p) (length-header (kind p) _ e) (plan-fours p h) ∙ ap fileLength (slots-shape p h)
@@ -72,7 +118,7 @@ pub length-layout : (p : Plan) → Nines (p .content) → length (Layout.layout 
 unfolding Layout.layout
 length-layout p h = length-withId p h _ (length-id _)
 
-pub layout-bounds : (N : ℤ → Type 0) (p : Plan) → Good N p → (284 ≤ length (Layout.layout p)) × (length (Layout.layout p) ≤ maxLength)
+pub layout-bounds : (N : ℤ → Type 0) (p : Plan) → Good N p → (minLength ≤ length (Layout.layout p)) × (length (Layout.layout p) ≤ maxLength)
 layout-bounds N p g =
     let s = good-shape N (p .content) (g .content) in
     rw (length-layout p (good-nines N (p .content) (g .content))) (PlanLaws.at-least (shape p) (s .some-letter), PlanLaws.at-most (shape p) (s .short))
@@ -83,11 +129,6 @@ pub blanked-withId : (p : Plan) (id : List ℕ) → length id ≡ 16
     → Layout.blanked (Layout.withId id p) ≡ file (Layout.header (kind p) (record { size = fileLength (Layout.slots p); intent = 0; id = zeros 16 })) (Layout.elements p)
 unfolding Layout.withId file
 blanked-withId p id h = header-blanked (kind p) _ _ h
-
--- the id in a plan's file is the id of that file
-pub layout-id : (p : Plan) → Layout.profileId (Layout.layout p) ≡ Layout.profileId (Layout.withId (zeros 16) p)
-unfolding Layout.layout Layout.profileId
-layout-id p = ap md5 (blanked-withId p _ (length-id _) ∙ sym (blanked-withId p (zeros 16) refl))
 
 -- the intent and the id go in last, into the blank file
 pub layout-last : (p : Plan) → let f = Layout.blanked (Layout.withId (zeros 16) p) in put (put f 64 (be32 (p .intent))) 84 (md5 f) ≡ Layout.layout p

@@ -3,9 +3,8 @@ use Prim.Native.Nat.{ℕ, _+_, _≤_}
 use mathlib.Core.Path.{_≡_, refl, sym}
 use mathlib.Core.List.{List, [], _∷_}
 use native.Mathlib.Omega.{arith}
-use lib.ListN.{length, length-append, length-drop}
-use lib.Seq.{length-take-le}
-use Rattle.buffer.specs.Buffer.{put}
+use lib.ListN.{length}
+use Rattle.buffer.specs.BufferLaws.{put-end}
 use Rattle.buffer.specs.Puts.{Puts, PutsText}
 use Rattle.buffer.specs.PutsLaws.{none, wrote, joined}
 use Rattle.profile.specs.TagTypes.{join}
@@ -16,8 +15,7 @@ pub data Runs : List ℕ → ℕ → List (List ℕ) → List ℕ → ℕ → Ty
   next : {l mid out q : List ℕ} {qs : List (List ℕ)} {i j k n : ℕ} → Puts l i n q j mid → Runs mid j qs out k → Runs l i (q ∷ qs) out k
 
 past : {l out q : List ℕ} {i n k : ℕ} → i ≤ length l → Puts l i n q k out → k ≤ length out
-unfolding put
-past {l} {out} {q} {i} {n} {k} h p = rw (p .bytes) (simp (length-append, length-drop) (omega (arith, length-take-le i l h, p .size, p .place)))
+past {l} {out} {q} {i} {n} {k} h p = rw (p .bytes) (omega (arith, put-end l i q h, p .size, p .place))
 
 pub runs : {l out : List ℕ} {qs : List (List ℕ)} {i k : ℕ} → Runs l i qs out k → i ≤ length l → PutsText l i (join qs) k out
 unfolding join

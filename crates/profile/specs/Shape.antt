@@ -51,7 +51,10 @@ pub record GoodShape (s : Shape) : Type 0 where
   pub short : s .letters ≤ maxLetters
   pub pair : NotBoth (s .cicp) (s .gamma)
 
--- the most bytes of a profile (01, "A plan")
+-- the fewest and the most bytes of a profile (01, "A plan")
+abbrev pub minLength : ℕ
+minLength = 284
+
 abbrev pub maxLength : ℕ
 maxLength = 1240
 
@@ -60,10 +63,26 @@ maxLength = 1240
 abbrev pub mlucSize : ℕ → ℕ
 mlucSize n = 28 + 2 * n
 
+-- of three numbers, and of nine
+abbrev pub xyzSize : ℕ
+xyzSize = 20
+
+abbrev pub chadSize : ℕ
+chadSize = 44
+
 -- of function type 0 and of type 3
 abbrev pub curveSize : Bool → ℕ
 curveSize true = 16
 curveSize false = 32
+
+abbrev pub cicpSize : ℕ
+cicpSize = 12
+
+abbrev pub a2b0Size : ℕ
+a2b0Size = 292
+
+abbrev pub b2a0Size : ℕ
+b2a0Size = 80
 
 abbrev pub sized : List (List ℕ) → ℕ → Slot
 sized s n = record { signatures = s; size = n }
@@ -74,21 +93,21 @@ one s n = sized (s ∷ []) n
 -- ---- the elements of each kind, in tag order (01, "The layout")
 
 abbrev pub cicpSlot : Bool → List Slot
-cicpSlot true = one Sig.cicp 12 ∷ []
+cicpSlot true = one Sig.cicp cicpSize ∷ []
 cicpSlot false = []
 
 -- the columns of an RGB profile and its one curve, of n bytes
 abbrev pub colorSlots : ℕ → List Slot
-colorSlots n = one Sig.rXYZ 20 ∷ one Sig.gXYZ 20 ∷ one Sig.bXYZ 20 ∷ sized (Sig.rTRC ∷ Sig.gTRC ∷ Sig.bTRC ∷ []) n ∷ []
+colorSlots n = one Sig.rXYZ xyzSize ∷ one Sig.gXYZ xyzSize ∷ one Sig.bXYZ xyzSize ∷ sized (Sig.rTRC ∷ Sig.gTRC ∷ Sig.bTRC ∷ []) n ∷ []
 
 -- each profile begins so
 abbrev pub firstSlots : ℕ → List Slot
-firstSlots n = one Sig.desc (mlucSize n) ∷ one Sig.cprt (mlucSize 3) ∷ one Sig.wtpt 20 ∷ []
+firstSlots n = one Sig.desc (mlucSize n) ∷ one Sig.cprt (mlucSize 3) ∷ one Sig.wtpt xyzSize ∷ []
 
 abbrev pub slotsFor : Kind → Shape → List Slot
 slotsFor Gray s = firstSlots (s .letters) ++ (one Sig.kTRC (curveSize (s .gamma)) ∷ [])
-slotsFor Rgb s = firstSlots (s .letters) ++ (one Sig.chad 44 ∷ (cicpSlot (s .cicp) ++ colorSlots (curveSize (s .gamma))))
-slotsFor Xyb s = firstSlots xybLetters ++ (one Sig.chad 44 ∷ one Sig.A2B0 292 ∷ one Sig.B2A0 80 ∷ [])
+slotsFor Rgb s = firstSlots (s .letters) ++ (one Sig.chad chadSize ∷ (cicpSlot (s .cicp) ++ colorSlots (curveSize (s .gamma))))
+slotsFor Xyb s = firstSlots xybLetters ++ (one Sig.chad chadSize ∷ one Sig.A2B0 a2b0Size ∷ one Sig.B2A0 b2a0Size ∷ [])
 
 unfoldable pub slotsOf : Shape → List Slot
 slotsOf s = slotsFor (s .kind) s

@@ -3,7 +3,7 @@ use Prim.Native.Nat.{ℕ, _+_, _*_}
 use mathlib.Core.List.{List, [], _∷_, _++_}
 use lib.ListN.{length}
 use lib.IntN.{ℤ, pos}
-use Rattle.numbers.specs.Words.{be16, be32, twosComplement32}
+use Rattle.words.specs.Words.{be16, be32, twosComplement32}
 use Rattle.buffer.specs.Ascii.{ascii}
 use Rattle.buffer.specs.Bytes.{zeros}
 use Rattle.profile.specs.Signatures as Sig

@@ -5,9 +5,9 @@ use mathlib.Core.List.{List, [], _∷_}
 use native.Mathlib.Omega.{arith}
 use lib.ListN.{length, take, drop, length-append, length-drop}
 use lib.Seq.{length-take-le}
-use lib.IntN.{ℤ}
-use Rattle.numbers.specs.Words.{be16, be32, twosComplement32}
-use Rattle.numbers.specs.WordsLaws.{length-be16, length-be32}
+use lib.IntN.{ℤ, pos}
+use Rattle.words.specs.Words.{be16, be32, twosComplement32}
+use Rattle.words.specs.WordsLaws.{length-be16, length-be32}
 use Rattle.xyb_constants.specs.XybNumbers.{mCurves}
 use Rattle.xyb_constants.specs.XybNumbersLaws as XybNumbers
 use Rattle.profile.specs.Elements.{padded, paddedSize}
@@ -63,10 +63,15 @@ pub length-cicp : (v : ℕ) (c : Curve) → length (TagTypes.cicp v c) ≡ 12
 unfolding TagTypes.cicp TagTypes.join
 length-cicp v c = refl
 
-pub length-uInt16s : (ns : List ℕ) → length (TagTypes.uInt16s ns) ≡ 2 * length ns
+length-uInt16s : (ns : List ℕ) → length (TagTypes.uInt16s ns) ≡ 2 * length ns
 unfolding TagTypes.uInt16s
 length-uInt16s [] = refl
 length-uInt16s (n ∷ ns) = omega (arith, length-append (be16 n) (TagTypes.uInt16s ns), length-be16 n, length-uInt16s ns)
+
+pub identity-curves :
+    Xyb.identityCurves ≡ TagTypes.join (TagTypes.para 0 (pos 65536 ∷ []) ∷ TagTypes.para 0 (pos 65536 ∷ []) ∷ TagTypes.para 0 (pos 65536 ∷ []) ∷ [])
+unfolding Xyb.identityCurves
+identity-curves = rw XybNumbers.identityGamma-is refl
 
 pub length-identityCurves : length Xyb.identityCurves ≡ 48
 unfolding Xyb.identityCurves TagTypes.join
@@ -93,32 +98,7 @@ pub length-b2a0 : length Xyb.b2a0 ≡ 80
 unfolding Xyb.b2a0 TagTypes.join
 length-b2a0 = simp (length-append, length-be32, length-identityCurves)
 
--- ---- with their padding; only `mluc` has any
-
-pub curve-whole : (c : Curve) → padded (TagTypes.curve c) ≡ TagTypes.curve c
-curve-whole c = padded-whole (TagTypes.curve c) (whole c)
-  where
-    whole : (c : Curve) → length (TagTypes.curve c) % 4 ≡ 0
-    whole (Named n) = rw (length-curve (Named n))
-    whole (Gamma g) = rw (length-curve (Gamma g))
-
-pub cicp-whole : (v : ℕ) (c : Curve) → padded (TagTypes.cicp v c) ≡ TagTypes.cicp v c
-cicp-whole v c = padded-whole (TagTypes.cicp v c) (rw (length-cicp v c))
+-- ---- with its padding; only `mluc` has any
 
 pub length-padded-mluc : (t : List ℕ) → length (padded (TagTypes.mluc t)) ≡ paddedSize (Shape.mlucSize (length t))
 length-padded-mluc t = length-padded (TagTypes.mluc t) ∙ ap paddedSize (length-mluc t)
-
-pub length-padded-xyz : (ns : List ℤ) → length (padded (TagTypes.xyz ns)) ≡ 8 + 4 * length ns
-length-padded-xyz ns = ap length (padded-whole (TagTypes.xyz ns) (omega (arith, length-xyz ns))) ∙ length-xyz ns
-
-pub length-padded-sf32 : (ns : List ℤ) → length (padded (TagTypes.sf32 ns)) ≡ 8 + 4 * length ns
-length-padded-sf32 ns = ap length (padded-whole (TagTypes.sf32 ns) (omega (arith, length-sf32 ns))) ∙ length-sf32 ns
-
-pub length-padded-curve : (c : Curve) → length (padded (TagTypes.curve c)) ≡ Shape.curveSize (Shape.isGamma c)
-length-padded-curve c = ap length (curve-whole c) ∙ length-curve c
-
-pub length-padded-a2b0 : length (padded Xyb.a2b0) ≡ 292
-length-padded-a2b0 = ap length (padded-whole Xyb.a2b0 (rw length-a2b0)) ∙ length-a2b0
-
-pub length-padded-b2a0 : length (padded Xyb.b2a0) ≡ 80
-length-padded-b2a0 = ap length (padded-whole Xyb.b2a0 (rw length-b2a0)) ∙ length-b2a0

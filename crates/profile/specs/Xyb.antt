@@ -1,9 +1,8 @@
 -- The `A2B0` and `B2A0` elements of the XYB profile: lutAToBType and lutBToAType (ICC.1:2022, 10.12 and 10.13). Assumes nothing.
 use Prim.Native.Nat.{ℕ}
 use mathlib.Core.List.{List, [], _∷_}
-use lib.IntN.{pos}
 use lib.ListN.{take, drop}
-use Rattle.numbers.specs.Words.{be32}
+use Rattle.words.specs.Words.{be32}
 use Rattle.buffer.specs.Bytes.{zeros}
 use Rattle.xyb_constants.specs.XybNumbers as Xyb
 use Rattle.profile.specs.Signatures as Sig
@@ -11,7 +10,7 @@ use Rattle.profile.specs.TagTypes.{join, para, s15Fixed16s, uInt16s}
 
 -- three identity curves
 unfoldable pub identityCurves : List ℕ
-identityCurves = join (para 0 (pos 65536 ∷ []) ∷ para 0 (pos 65536 ∷ []) ∷ para 0 (pos 65536 ∷ []) ∷ [])
+identityCurves = join (para 0 (Xyb.identityGamma ∷ []) ∷ para 0 (Xyb.identityGamma ∷ []) ∷ para 0 (Xyb.identityGamma ∷ []) ∷ [])
 
 -- two points in each of three dimensions, entries of two bytes
 unfoldable pub clut : List ℕ

@@ -123,7 +123,7 @@ pub fn xyb_numbers(intent: u32) -> Numbers
     }
 }
 
-pub fn is_gamma(curve: Curve) -> bool
+fn is_gamma(curve: Curve) -> bool
     ensures { λ r. ⌜ r ≡ Shapes.isGamma curve ⌝ }
 {
     match curve {
@@ -132,7 +132,7 @@ pub fn is_gamma(curve: Curve) -> bool
     }
 }
 
-pub fn has_cicp(cicp: Cicp) -> bool
+fn has_cicp(cicp: Cicp) -> bool
     ensures { λ r. ⌜ r ≡ Shapes.hasCicp cicp ⌝ }
 {
     match cicp {

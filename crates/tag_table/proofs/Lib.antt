@@ -1,2 +1,1 @@
-pub mod Cons
 pub mod Lines

@@ -2,7 +2,7 @@
 use Prim.Native.Nat.{ℕ, _+_, _*_}
 use mathlib.Core.Path.{_≡_, refl, ap₂}
 use mathlib.Core.List.{List, _++_}
-use Rattle.numbers.specs.Words.{be32}
+use Rattle.words.specs.Words.{be32}
 use Rattle.profile.specs.Elements.{Slot, Entry, entryBytes, entriesBytes, entries, start, table, tagCount}
 use Rattle.elements.specs.EncodingLaws.{Encoding}
 

@@ -1,2 +1,2 @@
-pub mod Tags
-pub mod TagsLaws
+pub mod Places
+pub mod PlacesLaws

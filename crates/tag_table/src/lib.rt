@@ -1,19 +1,18 @@
 // The tag table (ICC.1:2022, 7.3): the number of tags, and a signature, an offset and a size for each.
-pub mod tags;
-
 ghost use mathlib.Core.Path.{_≡_};
 ghost use Prim.Native.Nat.{_+_, _*_, _≤_};
 ghost use lib.ListN as ListN;
-ghost use Rattle.buffer.specs.Buffer.{put};
 ghost use Rattle.buffer.specs.Puts.{Puts};
 ghost use Rattle.profile.specs.Elements as Elements;
+ghost use Rattle.profile.specs.Elements.{headerSize, countSize, lineSize, lineStart};
 ghost use Rattle.profile.specs.Plan.{maxLetters};
 ghost use Rattle.profile.specs.Shape.{slotsOf, maxLength};
-ghost use Rattle.tag_table.specs.Tags as Listing;
-use crate::tags::Tag;
-use crate::tags::tags_of;
+ghost use Rattle.tags.specs.Tags.{maxTags};
+ghost use Rattle.tag_table.specs.Places as Places;
 use elements::write_icc_tag;
 use profile::Shape;
+use tags::Tag;
+use tags::tags_of;
 
 pub const HEADER_SIZE: usize = 128;
 
@@ -33,8 +32,8 @@ struct Place {
 
 // The place of a tag's element, from that of the tag before it.
 fn placed(before: Place, tag: Tag) -> Place
-    requires { ⌜ Listing.placed before tag .end ≤ maxLength ⌝ }
-    ensures { λ r. ⌜ r ≡ Listing.placed before tag ⌝ }
+    requires { ⌜ Places.placed before tag .end ≤ maxLength ⌝ }
+    ensures { λ r. ⌜ r ≡ Places.placed before tag ⌝ }
 {
     if tag.shared {
         return before;
@@ -48,16 +47,16 @@ fn placed(before: Place, tag: Tag) -> Place
 
 // Where the elements start, in a profile with so many tags.
 fn start(count: usize) -> usize
-    requires { ⌜ count ≤ Listing.maxTags ⌝ }
-    ensures { λ r. ⌜ r ≡ 132 + 12 * count ⌝ }
+    requires { ⌜ count ≤ maxTags ⌝ }
+    ensures { λ r. ⌜ r ≡ lineStart count ⌝ }
 {
     HEADER_SIZE + COUNT_SIZE + ENTRY_SIZE * count
 }
 
 // Before the first element.
 fn begin(count: usize) -> Place
-    requires { ⌜ count ≤ Listing.maxTags ⌝ }
-    ensures { λ r. ⌜ r ≡ Listing.begin count ⌝ }
+    requires { ⌜ count ≤ maxTags ⌝ }
+    ensures { λ r. ⌜ r ≡ Places.begin count ⌝ }
 {
     let at = start(count) as u32;
     Place {
@@ -89,20 +88,20 @@ fn put_tag(out: &mut [u8], at: usize, tag: Tag, offset: u32) -> usize
 {
     let signature = tag.signature;
     let at = write_icc_tag(out, at, signature);
-    let at = numbers::put_u32_be(out, at, offset);
-    numbers::put_u32_be(out, at, tag.size)
+    let at = words::put_u32_be(out, at, offset);
+    words::put_u32_be(out, at, tag.size)
 }
 
 // The tag table of a shape. Answers where the elements start.
 pub fn put_table(out: &mut [u8], shape: Shape) -> usize
     requires { ⌜ (shape .letters ≤ maxLetters) × (Elements.start (slotsOf shape) ≤ ListN.length (now out)) ⌝ }
-    ensures { λ r. ⌜ (r ≡ Elements.start (slotsOf shape)) × (now (out .exit) ≡ put (now (out .entry)) 128 (Elements.table (slotsOf shape))) ⌝ }
+    ensures { λ r. ⌜ Puts (now (out .entry)) headerSize (countSize + lineSize * Elements.tagCount (slotsOf shape)) (Elements.table (slotsOf shape)) r (now (out .exit)) ⌝ }
 {
     let listed = tags_of(shape);
     let tags = listed.tags;
     let count = listed.count;
     let mut place = begin(count);
-    let mut at = numbers::put_u32_be(out, HEADER_SIZE, count as u32);
+    let mut at = words::put_u32_be(out, HEADER_SIZE, count as u32);
     let mut i = 0;
     while i < count {
         let tag = tags[i];

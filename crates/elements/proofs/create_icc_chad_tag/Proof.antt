@@ -2,7 +2,7 @@
 -- Assumes nothing.
 use borrow.Author.Needs.{needs}
 use native.Mathlib.Omega.{arith}
-use Rattle.profile.specs.TagTypes.{sf32}
+use Rattle.profile.specs.TagTypes.{join, sf32}
 use Rattle.elements.specs.PartsLaws.{whole}
 use Rattle.elements.proofs.create_icc_chad_tag.Statement.{statement}
 use Rattle.elements.proofs.create_icc_chad_tag.Tie as tie
@@ -14,7 +14,7 @@ same-length : tie.Need-same-length
 same-length c = search needs
 
 returns : tie.Need-returns
-unfolding sf32
+unfolding sf32 join
 returns c = whole (c .before .before .put-numbers .ensures) (omega arith)
 
 pub create-icc-chad-tag-spec : {M : Type 1} → statement M

@@ -4,22 +4,22 @@ use borrow.Author.Needs.{needs}
 use mathlib.Core.Path.{refl}
 use native.Mathlib.Omega.{arith}
 use Rattle.profile.specs.RunsLaws.{next, done, run}
-use Rattle.profile.specs.TagTypes.{para}
+use Rattle.profile.specs.TagTypes.{join, para}
 use Rattle.profile.specs.TagTypesLaws.{length-para}
 use Rattle.elements.proofs.create_icc_curv_para_tag.Statement.{statement}
 use Rattle.elements.proofs.create_icc_curv_para_tag.Tie as tie
 
-write-icc-tag-requires : tie.Need-write-icc-tag-requires
-write-icc-tag-requires c κs = search needs
+slice-aggregate-put-bytes : tie.Need-slice-aggregate-put-bytes
+slice-aggregate-put-bytes c = search needs
 
-put-zeros-requires : tie.Need-put-zeros-requires
-put-zeros-requires c κs = search needs
+put-bytes-requires : tie.Need-put-bytes-requires
+put-bytes-requires c κs = search needs
 
 put-u16-be-requires : tie.Need-put-u16-be-requires
 put-u16-be-requires c κs = search needs
 
-put-zeros-requires-2 : tie.Need-put-zeros-requires-2
-put-zeros-requires-2 c κs = search needs
+put-zeros-requires : tie.Need-put-zeros-requires
+put-zeros-requires c κs = search needs
 
 put-s15-fixed-16s-requires : tie.Need-put-s15-fixed-16s-requires
 put-s15-fixed-16s-requires c κs = search needs
@@ -28,30 +28,28 @@ same-length : tie.Need-same-length
 same-length c = search needs
 
 returns : tie.Need-returns
-unfolding para
+unfolding para join
 returns c =
-    let s5 = c .before .before in
-    let s4 = s5 .before .before .before .before in
+    let s4 = c .before .before in
     let s3 = s4 .before .before .before .before in
     let s2 = s3 .before .before .before .before in
     let s1 = s2 .before .before .before .before in
-    let start = s1 .before .before .before .before .before in
+    let start = s1 .before .before .before .before in
     run _ _
-    (next (s1 .write-icc-tag .ensures)
-    (next (s2 .put-zeros .ensures)
-    (next (s3 .put-u16-be .ensures)
-    (next (s4 .put-zeros2 .ensures)
-    (next (s5 .put-s15-fixed-16s .ensures)
-    done))))) (omega arith) refl (length-para (start .args .curve-type) (start .args .params .now))
+    (next (s1 .put-bytes .ensures)
+    (next (s2 .put-u16-be .ensures)
+    (next (s3 .put-zeros .ensures)
+    (next (s4 .put-s15-fixed-16s .ensures)
+    done)))) (omega arith) refl (length-para (start .args .curve-type) (start .args .params .now))
 
 pub create-icc-curv-para-tag-spec : {M : Type 1} → statement M
 create-icc-curv-para-tag-spec =
     tie.close
     (tie.spec
-    write-icc-tag-requires
-    put-zeros-requires
+    slice-aggregate-put-bytes
+    put-bytes-requires
     put-u16-be-requires
-    put-zeros-requires-2
+    put-zeros-requires
     put-s15-fixed-16s-requires
     same-length
     returns)

@@ -2,7 +2,7 @@
 -- Assumes nothing.
 use borrow.Author.Needs.{needs}
 use native.Mathlib.Omega.{arith}
-use Rattle.profile.specs.TagTypes.{xyz}
+use Rattle.profile.specs.TagTypes.{join, xyz}
 use Rattle.elements.specs.PartsLaws.{whole}
 use Rattle.elements.proofs.create_icc_xyz_tag.Statement.{statement}
 use Rattle.elements.proofs.create_icc_xyz_tag.Tie as tie
@@ -14,7 +14,7 @@ same-length : tie.Need-same-length
 same-length c = search needs
 
 returns : tie.Need-returns
-unfolding xyz
+unfolding xyz join
 returns c = whole (c .before .before .put-numbers .ensures) (omega arith)
 
 pub create-icc-xyz-tag-spec : {M : Type 1} → statement M

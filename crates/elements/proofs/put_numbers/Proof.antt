@@ -10,11 +10,8 @@ use Rattle.profile.specs.TagTypesLaws.{length-s15Fixed16s}
 use Rattle.elements.proofs.put_numbers.Statement.{statement}
 use Rattle.elements.proofs.put_numbers.Tie as tie
 
-write-icc-tag-requires : tie.Need-write-icc-tag-requires
-write-icc-tag-requires c κs = search needs
-
-put-zeros-requires : tie.Need-put-zeros-requires
-put-zeros-requires c κs = search needs
+put-bytes-requires : tie.Need-put-bytes-requires
+put-bytes-requires c κs = search needs
 
 put-s15-fixed-16s-requires : tie.Need-put-s15-fixed-16s-requires
 put-s15-fixed-16s-requires c κs = search needs
@@ -25,23 +22,20 @@ same-length c = search needs
 returns : tie.Need-returns
 unfolding join
 returns c =
-    let s3 = c .before .before in
-    let s2 = s3 .before .before .before .before in
+    let s2 = c .before .before in
     let s1 = s2 .before .before .before .before in
-    let start = s1 .before .before .before in
-    let four : length (start .args .signature) ≡ 4 = s1 .write-icc-tag .ensures .size in
+    let start = s1 .before .before .before .before in
+    let eight : length (start .args .start .now) ≡ 8 = omega arith in
     run _ _
-    (next (s1 .write-icc-tag .ensures)
-    (next (s2 .put-zeros .ensures)
-    (next (s3 .put-s15-fixed-16s .ensures)
-    done))) (omega arith) refl (simp (length-append, length-s15Fixed16s, four) (omega arith))
+    (next (s1 .put-bytes .ensures)
+    (next (s2 .put-s15-fixed-16s .ensures)
+    done)) (omega arith) refl (simp (length-append, length-s15Fixed16s, eight) (omega arith))
 
 pub put-numbers-spec : {M : Type 1} → statement M
 put-numbers-spec =
     tie.close
     (tie.spec
-    write-icc-tag-requires
-    put-zeros-requires
+    put-bytes-requires
     put-s15-fixed-16s-requires
     same-length
     returns)

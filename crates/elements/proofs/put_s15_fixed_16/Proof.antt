@@ -4,7 +4,7 @@ use borrow.Author.Needs.{needs}
 use mathlib.Core.Path.{ap, _∙_}
 use mir.Syntax.{w32}
 use mir.ValLaws.{toZ-ofZ}
-use Rattle.numbers.specs.Words.{twosComplement32}
+use Rattle.words.specs.Words.{twosComplement32}
 use Rattle.elements.proofs.put_s15_fixed_16.Statement.{statement}
 use Rattle.elements.proofs.put_s15_fixed_16.Tie as tie
 

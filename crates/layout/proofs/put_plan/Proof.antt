@@ -2,7 +2,8 @@
 -- Assumes nothing.
 use borrow.Author.Needs.{needs}
 use Prim.Native.Nat.{_≤_}
-use mathlib.Core.Path.{_≡_, sym, _∙_}
+use mathlib.Core.Path.{_≡_, refl, sym, _∙_}
+use native.Mathlib.Nat.{zero-add}
 use native.Mathlib.Omega.{arith}
 use lib.ListN.{length}
 use Rattle.profile.specs.Elements.{fileLength}
@@ -62,7 +63,7 @@ put-elements-requires : tie.Need-put-elements-requires
 put-elements-requires c κs =
     let t = c .before .before .before in
     let made = t .before .before .before .before .before .before .before in
-    (begun made .pre .0, omega (arith, rw (made .shape-of .ensures) at (t .put-table .ensures .0), room (begun made)))
+    (begun made .pre .0, omega (arith, rw (made .shape-of .ensures) at (t .put-table .ensures .place), room (begun made)))
 
 put-intent-and-id-requires : tie.Need-put-intent-and-id-requires
 put-intent-and-id-requires c κs =
@@ -84,12 +85,14 @@ returns c =
     let s1 = s2 .before .before .before .before in
     let n = s1 .before .before in
     let made = n .before in
-    let s = begun made in (
-      s4 .put-intent-and-id .ensures .0 ∙ size n ∙ sym (length-layout (plan s) (nines s)),
-      finished (plan s) (nines s) (s .args .out .now) (s .pre .1) (size n) (rw (made .shape-of .ensures) at (s2 .put-table .ensures .0))
-          (rw (kind-by (s .args .plan) (s .args .text .now)) (s1 .create-icc-header .ensures)) (rw (made .shape-of .ensures) at (s2 .put-table .ensures .1))
-          (s3 .put-elements .ensures) (s4 .put-intent-and-id .ensures .1),
-    )
+    let s = begun made in
+    record {
+      size = refl;
+      place = size n ∙ sym (length-layout (plan s) (nines s)) ∙ sym (zero-add _);
+      bytes =
+          finished (plan s) (nines s) (s .args .out .now) (s .pre .1) (size n) (rw (kind-by (s .args .plan) (s .args .text .now)) (s1 .create-icc-header .ensures))
+          (rw (made .shape-of .ensures) at (s2 .put-table .ensures)) (s3 .put-elements .ensures) (s4 .put-intent-and-id .ensures .bytes);
+    }
 
 pub put-plan-spec : {M : Type 1} → statement M
 put-plan-spec =

@@ -4,7 +4,7 @@ use borrow.Author.Needs.{needs}
 use Prim.Native.Nat.{_-_}
 use native.Mathlib.Omega.{arith}
 use lib.ListN.{take}
-use Rattle.tag_table.specs.TagsLaws.{Walked, unwalked, lists, step-within, step, length-walked}
+use Rattle.tag_table.specs.PlacesLaws.{Walked, unwalked, lists, step-within, step, length-walked}
 use Rattle.tag_table.proofs.length.Statement.{statement}
 use Rattle.tag_table.proofs.length.Tie as tie
 

@@ -4,7 +4,7 @@ use borrow.Author.Needs.{needs}
 use Prim.Native.Nat.{_+_, _≤_}
 use native.Mathlib.Omega.{arith}
 use Rattle.profile.specs.Shape.{maxLength}
-use Rattle.tag_table.specs.Tags.{placed}
+use Rattle.tag_table.specs.Places.{placed}
 use Rattle.tag_table.proofs.placed.Statement.{statement}
 use Rattle.tag_table.proofs.placed.Tie as tie
 

@@ -11,7 +11,7 @@ use Rattle.buffer.specs.PutsLaws.{joined}
 use Rattle.profile.specs.Elements.{entry, entriesBytes}
 use Rattle.profile.specs.Shape.{slotsOf}
 use Rattle.elements.specs.EncodingLaws.{begun, one-more, ended}
-use Rattle.tag_table.specs.TagsLaws.{walk, length-walk, Walked, unwalked, lists, step-within, step, step-entry, count-all, walk-all}
+use Rattle.tag_table.specs.PlacesLaws.{walk, length-walk, Walked, unwalked, lists, step-within, step, step-entry, count-all, walk-all}
 use Rattle.tag_table.proofs.Lines.{lines, table-from, start-is}
 use Rattle.tag_table.proofs.put_table.Statement.{statement}
 use Rattle.tag_table.proofs.put_table.Tie as tie
@@ -124,10 +124,8 @@ returns c =
     let all = lists (start .args .shape) _ (made .tags-of .ensures) in
     let es = walk (first .begin .result) (take (made .tags-of .result .count) (made .tags-of .result .tags)) in
     let length-es : length es ≡ made .tags-of .result .count = length-walk _ _ ∙ count-all all in
-    let put = joined (omega (arith, start .pre .1, start-is ss)) (call .put-u32-be .ensures) (ended lines es (omega (arith, at .loop .inv .0 .within, count-all all)) (at .loop .inv .1)) in (
-      omega (arith, put .place, all .count, start-is ss),
-      rw (table-from ss (made .tags-of .result .count) es (all .count) (rw (first .begin .ensures) (walk-all all))) at (put .bytes),
-    )
+    let put = joined (omega (arith, start .pre .1, start-is ss)) (call .put-u32-be .ensures) (ended lines es (omega (arith, at .loop .inv .0 .within, count-all all)) (at .loop .inv .1)) in
+    rw (table-from ss (made .tags-of .result .count) es (all .count) (rw (first .begin .ensures) (walk-all all)), length-es ∙ all .count) at put
 
 pub put-table-spec : {M : Type 1} → statement M
 put-table-spec =

@@ -3,6 +3,7 @@
 use borrow.Author.Needs.{needs}
 use native.Mathlib.Omega.{arith}
 use Rattle.profile.specs.RunsLaws.{next, done, run}
+use Rattle.profile.specs.TagTypes.{join}
 use Rattle.profile.specs.Xyb as Xyb
 use Rattle.profile.specs.TagTypesLaws.{length-clut}
 use Rattle.xyb_elements.proofs.put_clut.Statement.{statement}
@@ -17,15 +18,6 @@ slice-aggregate-put-bytes c = search needs
 put-bytes-requires : tie.Need-put-bytes-requires
 put-bytes-requires c κs = search needs
 
-put-zeros-requires : tie.Need-put-zeros-requires
-put-zeros-requires c κs = search needs
-
-slice-aggregate-put-bytes-2 : tie.Need-slice-aggregate-put-bytes-2
-slice-aggregate-put-bytes-2 c = search needs
-
-put-bytes-requires-2 : tie.Need-put-bytes-requires-2
-put-bytes-requires-2 c κs = search needs
-
 slice-aggregate-put-u16s : tie.Need-slice-aggregate-put-u16s
 slice-aggregate-put-u16s c = search needs
 
@@ -36,20 +28,16 @@ same-length : tie.Need-same-length
 same-length c = search needs
 
 returns : tie.Need-returns
-unfolding Xyb.clut
+unfolding Xyb.clut join
 returns c =
-    let s4 = c .before .before in
-    let s3 = s4 .before .before .before .before .before in
-    let s2 = s3 .before .before .before .before .before in
-    let s1 = s2 .before .before .before .before in
+    let s2 = c .before .before in
+    let s1 = s2 .before .before .before .before .before in
     let values = s1 .before .before .before in
     let start = values .before .before in
     run _ _
     (next (s1 .put-bytes .ensures)
-    (next (s2 .put-zeros .ensures)
-    (next (s3 .put-bytes2 .ensures)
-    (next (s4 .put-u16s .ensures)
-    done)))) (omega (arith, start .pre)) (rw (values .clut .ensures)) length-clut
+    (next (s2 .put-u16s .ensures)
+    done)) (omega (arith, start .pre)) (rw (values .clut .ensures)) length-clut
 
 pub put-clut-spec : {M : Type 1} → statement M
 put-clut-spec =
@@ -58,9 +46,6 @@ put-clut-spec =
     clut-requires
     slice-aggregate-put-bytes
     put-bytes-requires
-    put-zeros-requires
-    slice-aggregate-put-bytes-2
-    put-bytes-requires-2
     slice-aggregate-put-u16s
     put-u16s-requires
     same-length

@@ -4,8 +4,7 @@ use borrow.Author.Needs.{needs}
 use mathlib.Core.Path.{refl}
 use native.Mathlib.Omega.{arith}
 use Rattle.profile.specs.RunsLaws.{next, done, run}
-use Rattle.profile.specs.Xyb.{identityCurves}
-use Rattle.profile.specs.TagTypesLaws.{length-identityCurves}
+use Rattle.profile.specs.TagTypesLaws.{identity-curves, length-identityCurves}
 use Rattle.xyb_elements.proofs.put_identity_curves.Statement.{statement}
 use Rattle.xyb_elements.proofs.put_identity_curves.Tie as tie
 
@@ -31,7 +30,6 @@ same-length : tie.Need-same-length
 same-length c = search needs
 
 returns : tie.Need-returns
-unfolding identityCurves
 returns c =
     let s3 = c .before .before in
     let s2 = s3 .before .before .before .before .before in
@@ -41,7 +39,7 @@ returns c =
     (next (s1 .create-icc-curv-para-tag .ensures)
     (next (s2 .create-icc-curv-para-tag2 .ensures)
     (next (s3 .create-icc-curv-para-tag3 .ensures)
-    done))) (omega arith) refl length-identityCurves
+    done))) (omega arith) identity-curves length-identityCurves
 
 pub put-identity-curves-spec : {M : Type 1} → statement M
 put-identity-curves-spec =

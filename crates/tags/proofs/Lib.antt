@@ -1,0 +1,2 @@
+pub mod Cons
+pub mod Slots
