@@ -12,7 +12,7 @@ use Rattle.color_encoding.specs.declared.JxlColorEncoding.the-variants.{RgbColo
 use Rattle.profile.specs.declared.Curve.{Curve}
 use Rattle.buffer.specs.Checked.{is, refused}
 use Rattle.encoding_plan.specs.PlanOf.{supported, curveOf, grayNumbers, chadNumbers, columnNumbers, cicpOf, grayPlan, rgbPlan, planOf}
-use Rattle.encoding_plan.specs.declared.curve.SupportedCurve.{SupportedCurve}
+use Rattle.encoding_curve.specs.declared.SupportedCurve.{SupportedCurve}
 
 module _ (w : JxlWhitePoint) (t : JxlTransferFunction) (i : RenderingIntent) where
   pub gray-unsupported : {n : ℕ} → supported t ≡ refused n → planOf (GrayscaleColorSpace w t i) ≡ refused n

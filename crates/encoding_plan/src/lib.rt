@@ -1,14 +1,11 @@
 // The plan of an encoding, or its refusal.
-mod curve;
-mod fixed;
-
 use color_encoding::JxlColorEncoding;
 use color_encoding::JxlPrimaries;
 use color_encoding::JxlTransferFunction;
 use color_encoding::JxlWhitePoint;
 use color_encoding::RenderingIntent;
-use curve::CurveAnswer;
-use curve::Support;
+use encoding_curve::CurveAnswer;
+use encoding_curve::Support;
 use profile::Numbers;
 ghost use mathlib.Core.Path.{_≡_};
 ghost use Rattle.encoding_plan.specs.PlanOf.{planOf};
@@ -37,14 +34,14 @@ fn gray_plan(
 ) -> EncodingPlan
     ensures { λ r. ⌜ checkedPlan r (JxlColorEncoding.GrayscaleColorSpace white transfer intent) ≡ planOf (JxlColorEncoding.GrayscaleColorSpace white transfer intent) ⌝ }
 {
-    match curve::supported(transfer) {
+    match encoding_curve::supported(transfer) {
         Support::Unsupported => refused(1),
         Support::Curve(named_or_gamma) => {
-            let numbers = fixed::gray_numbers(white.to_xy_coords());
+            let numbers = encoding_numbers::gray_numbers(white.to_xy_coords());
             if numbers.refusal != 0 {
                 return refused(numbers.refusal);
             }
-            match curve::curve_of(named_or_gamma) {
+            match encoding_curve::curve_of(named_or_gamma) {
                 CurveAnswer::OutOfRange => refused(8),
                 CurveAnswer::Curve(curve) => {
                     let plan = profile::gray_numbers(intent.number(), curve, numbers.x, numbers.z);
@@ -63,22 +60,22 @@ fn rgb_plan(
 ) -> EncodingPlan
     ensures { λ r. ⌜ checkedPlan r (JxlColorEncoding.RgbColorSpace white primaries transfer intent) ≡ planOf (JxlColorEncoding.RgbColorSpace white primaries transfer intent) ⌝ }
 {
-    match curve::supported(transfer) {
+    match encoding_curve::supported(transfer) {
         Support::Unsupported => refused(1),
         Support::Curve(named_or_gamma) => {
             let white_xy = white.to_xy_coords();
-            let chad = fixed::chad_numbers(white_xy);
+            let chad = encoding_numbers::chad_numbers(white_xy);
             if chad.refusal != 0 {
                 return refused(chad.refusal);
             }
-            let columns = fixed::column_numbers(primaries.to_xy_coords(), white_xy);
+            let columns = encoding_numbers::column_numbers(primaries.to_xy_coords(), white_xy);
             if columns.refusal != 0 {
                 return refused(columns.refusal);
             }
-            match curve::curve_of(named_or_gamma) {
+            match encoding_curve::curve_of(named_or_gamma) {
                 CurveAnswer::OutOfRange => refused(8),
                 CurveAnswer::Curve(curve) => {
-                    let cicp = curve::cicp_of(white, primaries, curve);
+                    let cicp = encoding_curve::cicp_of(white, primaries, curve);
                     let chad_values = chad.values;
                     let column_values = columns.values;
                     let plan = profile::rgb_numbers(

@@ -11,7 +11,7 @@ use Rattle.color_encoding.specs.declared.WhiteXy.{WhiteXy}
 use Rattle.color_encoding.specs.declared.PrimariesXy.{PrimariesXy}
 use Rattle.color_encoding.specs.declared.JxlColorEncoding.{JxlColorEncoding}
 use Rattle.color_encoding.specs.declared.JxlColorEncoding.the-variants.{RgbColorSpace, GrayscaleColorSpace, XYB}
-use Rattle.colorimetry.specs.GrayWhite.{cieXyzFromWhiteCieXy}
+use Rattle.white_point.specs.GrayWhite.{cieXyzFromWhiteCieXy}
 use Rattle.colorimetry.specs.Adapt.{chadMatrix}
 use Rattle.colorimetry.specs.Primaries.{createIccRgbMatrix}
 use Rattle.buffer.specs.Checked.{Checked, is, refused, then}

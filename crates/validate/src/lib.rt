@@ -4,7 +4,7 @@ use color_encoding::PrimariesXy;
 use color_encoding::WhiteXy;
 use colorimetry::Adaptation;
 use colorimetry::Conversion;
-use colorimetry::WhiteXyz;
+use white_point::WhiteXyz;
 ghost use mathlib.Core.Path.{_≡_};
 ghost use Rattle.validate.specs.Validate.{isS15Fixed16, allS15Fixed16, whiteInRange, matrixInRange, matricesInRange, validation, validateIccMatrix};
 
@@ -41,7 +41,7 @@ fn all_s15_fixed_16(values: &[f32]) -> bool
 fn validate_white(white: WhiteXy) -> Validation
     ensures { λ r. ⌜ r ≡ validation (whiteInRange white) ⌝ }
 {
-    match colorimetry::cie_xyz_from_white_cie_xy(white) {
+    match white_point::cie_xyz_from_white_cie_xy(white) {
         WhiteXyz::Xyz { x, y, z } => {
             if !all_s15_fixed_16(&[x, y, z]) {
                 return Validation::ValueOutOfRange;

@@ -1,21 +1,22 @@
 -- What laying a plan out answers and leaves, from what `text` and `layout` ensure. Assumes nothing.
-use Prim.Native.Nat.{ℕ, _≤_, _<_}
+use Prim.Native.Nat.{ℕ, _+_, _≤_, _<_}
 use mathlib.Core.Path.{_≡_, sym, ap, _∙_}
 use mathlib.Core.List.{List, _++_}
+use native.Mathlib.Nat.{zero-add}
 use native.Mathlib.Omega.{arith}
 use lib.ListN.{length, take, replicate, length-append}
 use lib.Seq.{take-at}
 use mir.Syntax.{w32}
 use mir.Val.{Fits}
 use borrow.Author.Tests.{le-leb, lt-leb}
-use Rattle.buffer.specs.Buffer.{put}
+use Rattle.buffer.specs.Puts.{PutsText}
 use Rattle.profile.specs.Plan.{Plan, maxLetters}
 use Rattle.profile.specs.Shape.{shape}
 use Rattle.profile.specs.PlanLaws.{Nines, at-most}
 use Rattle.profile.specs.Layout.{layout}
 use Rattle.profile.specs.LayoutLaws.{length-layout}
 use Rattle.buffer.specs.Checked.{Checked, is, refused}
-use Rattle.writer.specs.Writer.{answer, output, Writes}
+use Rattle.writer.specs.Writer.{answer, output, Writes, tooShort}
 use Rattle.writer.specs.declared.Profile.{Profile}
 use Rattle.writer.specs.declared.Profile.the-variants.{Written, Refused}
 
@@ -28,22 +29,22 @@ letters-within d {bytes} z {n} e h = rw (h, e, length-append) (omega arith)
 
 -- ---- a layout fits 32 bits
 
-pub short-layout : (p : Plan) → Nines (p .content) → shape p .letters ≤ maxLetters → {r : ℕ} → r ≡ length (layout p) → Fits w32 r
+pub short-layout : (p : Plan) → Nines (p .content) → shape p .letters ≤ maxLetters → {r : ℕ} → r ≡ 0 + length (layout p) → Fits w32 r
 short-layout p h s {r} e = record { fits = omega (arith, e, length-layout p h, at-most (shape p) s) }
 
 -- ---- the two answers; n is the length of the layout
 
-pub too-short : (p : Plan) (out : List ℕ) (n : ℕ) → n ≡ length (layout p) → length out < n → Writes (λ r. r) (is p) out out (Refused 9)
+pub too-short : (p : Plan) (out : List ℕ) (n : ℕ) → n ≡ length (layout p) → length out < n → Writes (λ r. r) (is p) out out (Refused tooShort)
 too-short p out n e h =
     let less : length out < length (layout p) = rw e at h in
     record { answer = simp (lt-leb _ _ less); output = simp (lt-leb _ _ less) }
 
 pub laid-out :
     (p : Plan) (out left : List ℕ) (n r : ℕ) → n ≡ length (layout p) → n ≤ length out →
-    (r ≡ length (layout p)) × (left ≡ put out 0 (layout p)) → Writes (λ r. r) (is p) out left (Written r)
+    PutsText out 0 (layout p) r left → Writes (λ r. r) (is p) out left (Written r)
 laid-out p out left n r e h w =
     let room : length (layout p) ≤ length out = rw e at h in
-    record { answer = ap Written (w .0) ∙ simp (le-leb _ _ room); output = w .1 ∙ simp (le-leb _ _ room) }
+    record { answer = ap Written (w .place ∙ zero-add _) ∙ simp (le-leb _ _ room); output = w .bytes ∙ simp (le-leb _ _ room) }
 
 -- ---- the answer of a plan that is known
 

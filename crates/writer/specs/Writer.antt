@@ -9,12 +9,23 @@ use Rattle.buffer.specs.Buffer.{put}
 use Rattle.profile.specs.Plan.{Plan}
 use Rattle.profile.specs.Layout.{layout}
 use Rattle.buffer.specs.Checked.{Checked, is, refused}
+use Rattle.color_encoding.specs.declared.JxlColorEncoding.{JxlColorEncoding}
+use Rattle.text.specs.Held.{HeldEncoding}
+use Rattle.encoding_plan.specs.PlanOf.{planOf}
 use Rattle.writer.specs.declared.Profile.{Profile}
 use Rattle.writer.specs.declared.Profile.the-variants.{Written, Refused}
 
--- the length of the profile, or the first refusal number; 9: the output, of n bytes, is shorter than the profile
+-- the refusal of an output that is shorter than what is to be written
+abbrev pub tooShort : ℕ
+tooShort = 9
+
+-- the most bytes of a written profile (01, "A plan")
+abbrev pub maxWritten : ℕ
+maxWritten = 1200
+
+-- the length of the profile, or the first refusal number; the output has n bytes
 abbrev pub answer : Checked Plan → ℕ → Profile
-answer (is p) n = cond (leb (length (layout p)) n) (Written (length (layout p))) (Refused 9)
+answer (is p) n = cond (leb (length (layout p)) n) (Written (length (layout p))) (Refused tooShort)
 answer (refused k) n = Refused k
 
 -- the output at exit: the profile in front and the rest as it was, or all as it was
@@ -27,7 +38,17 @@ abbrev pub number : Profile → ℕ
 number (Written n) = n
 number (Refused k) = k
 
+-- the answer that such a number stands for: a refusal number is at most 99, a length at least 284 (writer_laws, RefusalNumbers)
+abbrev pub profileBy : ℕ → Profile
+profileBy n = cond (leb n 99) (Refused n) (Written n)
+
 -- the promise of a call that writes a plan, or refuses: its answer r is the writer's, as `shown` shows it
 pub record Writes {A : Type 0} (shown : Profile → A) (plan : Checked Plan) (before after : List ℕ) (r : A) : Type 0 where
   pub answer : r ≡ shown (answer plan (length before))
   pub output : after ≡ output plan before
+
+-- the promise of `maybe_create_profile` for the encoding e
+pub record Creates (e : JxlColorEncoding) (before after : List ℕ) (r : Profile) : Type 0 where
+  pub writes : Writes (λ p. p) (planOf e) before after r
+  -- an encoding in code holds binary32 values, as the theorems about its plan ask
+  pub held : HeldEncoding e

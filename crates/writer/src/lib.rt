@@ -5,8 +5,13 @@ ghost use Rattle.profile.specs.Numbers as Plans;
 ghost use Rattle.text.specs.Description.{description};
 ghost use Rattle.text.specs.Held.{WhiteInRange};
 ghost use Rattle.buffer.specs.Checked.{is};
-ghost use Rattle.encoding_plan.specs.PlanOf.{planOf};
-ghost use Rattle.writer.specs.Writer.{Writes};
+ghost use Rattle.writer.specs.Writer.{Writes, Creates};
+
+// The refusal of an output that is shorter than what is to be written.
+pub const TOO_SHORT: u32 = 9;
+
+// The most bytes that any profile has.
+pub const MAX_WRITTEN: usize = 1200;
 
 // What the writer answers: the length of the profile that it wrote, or the first number of the refusal list that applies.
 pub enum Profile {
@@ -24,14 +29,14 @@ fn put_plan(encoding: JxlColorEncoding, plan: Numbers, out: &mut [u8]) -> Profil
     let bytes = text.bytes;
     let letters = &bytes[..len];
     if out.len() < layout::length(profile::shape_of(plan, letters)) {
-        return Profile::Refused(9);
+        return Profile::Refused(TOO_SHORT);
     }
     Profile::Written(layout::put_plan(out, plan, letters) as u32)
 }
 
 // Writes the profile of an encoding to the front of the output. On a refusal no byte of the output changes.
 pub fn maybe_create_profile(encoding: JxlColorEncoding, out: &mut [u8]) -> Profile
-    ensures { λ r. ⌜ Writes (λ p. p) (planOf encoding) (now (out .entry)) (now (out .exit)) r ⌝ }
+    ensures { λ r. ⌜ Creates encoding (now (out .entry)) (now (out .exit)) r ⌝ }
 {
     let planned = encoding_plan::plan_of(encoding);
     if planned.refusal != 0 {

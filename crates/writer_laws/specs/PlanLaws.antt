@@ -17,7 +17,7 @@ use Rattle.color_encoding.specs.declared.JxlWhitePoint.the-variants as W
 use Rattle.color_encoding.specs.declared.JxlPrimaries.{JxlPrimaries}
 use Rattle.color_encoding.specs.declared.JxlPrimaries.the-variants as P
 use Rattle.color_encoding.specs.declared.JxlColorEncoding.{JxlColorEncoding}
-use Rattle.colorimetry.specs.GrayWhite.{cieXyzFromWhiteCieXy}
+use Rattle.white_point.specs.GrayWhite.{cieXyzFromWhiteCieXy}
 use Rattle.colorimetry.specs.Adapt.{chadMatrix}
 use Rattle.colorimetry.specs.Primaries.{createIccRgbMatrix}
 use Rattle.text.specs.Description.{description}
@@ -29,8 +29,8 @@ use Rattle.profile.specs.declared.Curve.the-variants.{Named, Gamma}
 use Rattle.profile.specs.declared.CurveName.{CurveName}
 use Rattle.encoding_plan.specs.Answers.{reciprocalRefusal}
 use Rattle.encoding_plan.specs.PlanOf.{curveOf, grayNumbers, chadNumbers, columnNumbers, cicpPair, cicpOf}
-use Rattle.encoding_plan.specs.declared.curve.SupportedCurve.{SupportedCurve}
-use Rattle.encoding_plan.specs.declared.curve.SupportedCurve.the-variants as Supported
+use Rattle.encoding_curve.specs.declared.SupportedCurve.{SupportedCurve}
+use Rattle.encoding_curve.specs.declared.SupportedCurve.the-variants as Supported
 
 -- ---- `chad` and the columns
 

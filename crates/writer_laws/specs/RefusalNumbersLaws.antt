@@ -1,85 +1,57 @@
--- The checks of `planOf` refuse by numbers from 1 to 8. Assumes nothing.
+-- A refused encoding's number is that of a check before the last, and a number tells the answer that it stands for. Assumes nothing.
 use Prim.Native.Nat.{ℕ, _≤_}
-use mathlib.Core.Path.{_≡_, refl}
-use lib.Dec.{lit≤}
-use lib.Ieee.{Float}
-use Rattle.numbers.specs.Fixed.{s15Fixed16, fixedOr}
-use Rattle.numbers.specs.declared.fixed.S15Fixed16.{S15Fixed16}
-use Rattle.numbers.specs.declared.fixed.S15Fixed16.the-variants.{Number, OutOfRange}
-use Rattle.linalg.specs.Linalg.{component, rows, columns}
-use Rattle.color_encoding.specs.Coordinates.{whiteXy, primariesXy}
-use Rattle.color_encoding.specs.declared.RenderingIntent.the-variants.{Perceptual, Relative, Saturation, Absolute}
-use Rattle.color_encoding.specs.declared.WhiteXy.{WhiteXy}
-use Rattle.color_encoding.specs.declared.PrimariesXy.{PrimariesXy}
-use Rattle.color_encoding.specs.declared.JxlTransferFunction.{JxlTransferFunction}
-use Rattle.color_encoding.specs.declared.JxlTransferFunction.the-variants as F
+use mathlib.Core.Path.{_≡_, refl, sym, ap, _∙_}
+use mathlib.Core.Bool.{Bool, true, false, cond}
+use mathlib.Core.List.{List}
+use native.Mathlib.Nat.{le-trans}
+use native.Mathlib.Omega.{arith}
+use lib.Dec.{leb, lit≤}
+use lib.ListN.{length}
+use borrow.Author.Tests.{le-leb, lt-leb}
+use Rattle.buffer.specs.Checked.{Checked, is, refused}
+use Rattle.buffer.specs.CheckedLaws.{never}
+use Rattle.buffer.specs.First.{First}
+use Rattle.buffer.specs.FirstLaws.{first-fails}
 use Rattle.color_encoding.specs.declared.JxlColorEncoding.{JxlColorEncoding}
-use Rattle.color_encoding.specs.declared.JxlColorEncoding.the-variants.{RgbColorSpace, GrayscaleColorSpace, XYB}
-use Rattle.colorimetry.specs.GrayWhite.{cieXyzFromWhiteCieXy}
-use Rattle.colorimetry.specs.Adapt.{chadMatrix}
-use Rattle.colorimetry.specs.Primaries.{createIccRgbMatrix}
-use Rattle.colorimetry.specs.RefusalLaws.{Refusing, by-then, by-each, by-white, by-chad, by-rgb-matrix}
-use Rattle.encoding_plan.specs.Answers.{reciprocalRefusal}
-use Rattle.encoding_plan.specs.PlanOf.{supported, curveOf, grayNumbers, chadNumbers, columnNumbers, planOf}
-use Rattle.encoding_plan.specs.declared.curve.SupportedCurve.{SupportedCurve}
-use Rattle.encoding_plan.specs.declared.curve.SupportedCurve.the-variants as Supported
+use Rattle.profile.specs.Plan.{Plan}
+use Rattle.profile.specs.Shape.{minLength}
+use Rattle.profile.specs.Layout.{layout}
+use Rattle.encoding_plan.specs.PlanOf.{planOf}
+use Rattle.writer.specs.Writer.{answer, number as numberOf, profileBy, tooShort}
+use Rattle.writer.specs.declared.Profile.{Profile}
+use Rattle.writer.specs.declared.Profile.the-variants.{Written, Refused}
+use Rattle.writer_laws.specs.RefusalList.{Check, c1, c2, c3, c4, c5, c6, c7, c8, c9, number, Passed, checks, Answers, refuses, writes}
+use Rattle.writer_laws.specs.WriterAnswers.{writer-answers}
 
--- a number that the writer can answer before it looks at the room for the output
-abbrev pub BeforeOutput : ℕ → Type 0
-BeforeOutput k = (1 ≤ k) × (k ≤ 8)
+-- ---- the number of a refused encoding
 
-by-fixed : (k : ℕ) → BeforeOutput k → (x : Float) → Refusing BeforeOutput (fixedOr k x)
-by-fixed k n x = go (s15Fixed16 x) refl
+module _ (e : JxlColorEncoding) {k : ℕ} (h : planOf e ≡ refused k) where
+  -- a refused encoding has no profile that an output could be too short for
+  before-output : (c : Check) → First (Passed e 0) checks c → (1 ≤ number c) × (number c ≤ 8)
+  before-output c1 f = (lit≤ tt, lit≤ tt)
+  before-output c2 f = (lit≤ tt, lit≤ tt)
+  before-output c3 f = (lit≤ tt, lit≤ tt)
+  before-output c4 f = (lit≤ tt, lit≤ tt)
+  before-output c5 f = (lit≤ tt, lit≤ tt)
+  before-output c6 f = (lit≤ tt, lit≤ tt)
+  before-output c7 f = (lit≤ tt, lit≤ tt)
+  before-output c8 f = (lit≤ tt, lit≤ tt)
+  before-output c9 f = absurd (first-fails f (λ p g. absurd (never (sym h ∙ g))))
+
+  pub refusal-bounds : (1 ≤ k) × (k ≤ 8)
+  refusal-bounds = go (writer-answers e 0) (ap (λ c. answer c 0) h)
+    where
+      go : {a : Profile} → Answers e 0 a → a ≡ Refused k → (1 ≤ k) × (k ≤ 8)
+      go (refuses {c} f) g = let same : number c ≡ k = cc in rw (← same) (before-output c f)
+      go (writes p q all) g = let z : _≡_ {A = ℕ} 0 1 = cc in absurd (omega arith)
+
+-- ---- a number tells the answer
+
+pub told : (c : Checked Plan) (n : ℕ) → ((p : Plan) → c ≡ is p → minLength ≤ length (layout p)) → ((k : ℕ) → c ≡ refused k → k ≤ 99)
+    → profileBy (numberOf (answer c n)) ≡ answer c n
+told (refused k) n long low = simp (le-leb k 99 (low k refl))
+told (is p) n long low = go (leb (length (layout p)) n)
   where
-    go : (s : S15Fixed16) → s15Fixed16 x ≡ s → Refusing BeforeOutput (fixedOr k x)
-    go (Number z) h = rw h tt
-    go OutOfRange h = rw h n
-
-by-supported : (t : JxlTransferFunction) → Refusing BeforeOutput (supported t)
-by-supported F.PQ = (lit≤ tt, lit≤ tt)
-by-supported F.HLG = (lit≤ tt, lit≤ tt)
-by-supported F.BT709 = tt
-by-supported F.Linear = tt
-by-supported F.SRGB = tt
-by-supported F.DCI = tt
-by-supported (F.Gamma g) = tt
-
-by-curve : (s : SupportedCurve) → Refusing BeforeOutput (curveOf s)
-by-curve (Supported.Named n) = tt
-by-curve (Supported.Gamma g) = by-then BeforeOutput (fixedOr reciprocalRefusal _) _ (by-fixed reciprocalRefusal (lit≤ tt, lit≤ tt) _) (λ n. tt)
-
-by-gray-numbers : (w : WhiteXy) → Refusing BeforeOutput (grayNumbers w)
-by-gray-numbers w =
-    let fits = by-fixed 7 (lit≤ tt, lit≤ tt) in
-    by-then BeforeOutput (cieXyzFromWhiteCieXy w) _ (by-white BeforeOutput (lit≤ tt, lit≤ tt) w) (λ v.
-    by-then BeforeOutput (fixedOr 7 (component v 0)) _ (fits (component v 0)) (λ a.
-    by-then BeforeOutput (fixedOr 7 (component v 2)) _ (fits (component v 2)) (λ b.
-    tt)))
-
-by-chad-numbers : (w : WhiteXy) → Refusing BeforeOutput (chadNumbers w)
-by-chad-numbers w =
-    by-then BeforeOutput (chadMatrix w) _ (by-chad BeforeOutput (lit≤ tt, lit≤ tt) w) (λ m.
-    by-each BeforeOutput (fixedOr 5) (by-fixed 5 (lit≤ tt, lit≤ tt)) (rows m))
-
-by-column-numbers : (p : PrimariesXy) (w : WhiteXy) → Refusing BeforeOutput (columnNumbers p w)
-by-column-numbers p w =
-    by-then BeforeOutput (createIccRgbMatrix p w) _ (by-rgb-matrix BeforeOutput (lit≤ tt, lit≤ tt) w (lit≤ tt, lit≤ tt) p) (λ m.
-    by-each BeforeOutput (fixedOr 7) (by-fixed 7 (lit≤ tt, lit≤ tt)) (columns m))
-
-pub by-plan : (e : JxlColorEncoding) → Refusing BeforeOutput (planOf e)
-unfolding planOf
-by-plan (GrayscaleColorSpace w t i) =
-    by-then BeforeOutput (supported t) _ (by-supported t) (λ s.
-    by-then BeforeOutput (grayNumbers (whiteXy w)) _ (by-gray-numbers (whiteXy w)) (λ xz.
-    by-then BeforeOutput (curveOf s) _ (by-curve s) (λ c.
-    tt)))
-by-plan (RgbColorSpace w p t i) =
-    by-then BeforeOutput (supported t) _ (by-supported t) (λ s.
-    by-then BeforeOutput (chadNumbers (whiteXy w)) _ (by-chad-numbers (whiteXy w)) (λ m.
-    by-then BeforeOutput (columnNumbers (primariesXy p) (whiteXy w)) _ (by-column-numbers (primariesXy p) (whiteXy w)) (λ k.
-    by-then BeforeOutput (curveOf s) _ (by-curve s) (λ c.
-    tt))))
-by-plan (XYB Perceptual) = tt
-by-plan (XYB Relative) = (lit≤ tt, lit≤ tt)
-by-plan (XYB Saturation) = (lit≤ tt, lit≤ tt)
-by-plan (XYB Absolute) = (lit≤ tt, lit≤ tt)
+    go : (b : Bool) → profileBy (numberOf (cond b (Written (length (layout p))) (Refused tooShort))) ≡ cond b (Written (length (layout p))) (Refused tooShort)
+    go true = simp (lt-leb (length (layout p)) 99 (le-trans (lit≤ tt) (long p refl)))
+    go false = refl

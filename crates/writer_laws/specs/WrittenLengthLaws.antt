@@ -13,20 +13,25 @@ use Rattle.buffer.specs.CheckedLaws.{never, both}
 use Rattle.numbers.specs.Fixed.{fixedOr}
 use Rattle.color_encoding.specs.Intent.{intentName}
 use Rattle.color_encoding.specs.declared.RenderingIntent.{RenderingIntent}
-use Rattle.color_encoding.specs.declared.RenderingIntent.the-variants.{Perceptual, Relative}
+use Rattle.color_encoding.specs.Coordinates.{whiteXy, primariesXy}
+use Rattle.color_encoding.specs.declared.RenderingIntent.the-variants.{Perceptual, Relative, Saturation, Absolute}
 use Rattle.color_encoding.specs.declared.JxlWhitePoint.{JxlWhitePoint}
 use Rattle.color_encoding.specs.declared.JxlWhitePoint.the-variants as W
 use Rattle.color_encoding.specs.declared.JxlPrimaries.{JxlPrimaries}
 use Rattle.color_encoding.specs.declared.JxlPrimaries.the-variants as P
 use Rattle.color_encoding.specs.declared.JxlTransferFunction.{JxlTransferFunction}
 use Rattle.color_encoding.specs.declared.JxlTransferFunction.the-variants as F
-use Rattle.color_encoding.specs.declared.JxlColorEncoding.the-variants.{RgbColorSpace}
+use Rattle.color_encoding.specs.declared.JxlColorEncoding.{JxlColorEncoding}
+use Rattle.color_encoding.specs.declared.JxlColorEncoding.the-variants.{RgbColorSpace, GrayscaleColorSpace, XYB}
 use Rattle.decimal.specs.Seven.{sevenDecimals, withPoint}
-use Rattle.decimal.specs.Decimal.{digits, digitsUpTo, lastDigits}
+use Rattle.digits.specs.Digits.{digits, digitsUpTo, lastDigits}
 use Rattle.text.specs.Description.{underscore, whiteName, primariesName, transferName, rgbText, rgbDescription, description, sRGB, displayP3, rec2100PQ, rec2100HLG, matches}
 use Rattle.text.specs.Held.{HeldEncoding, HeldPrimaries, InRange}
 use Rattle.text.specs.Bounds.{length-in-range}
 use Rattle.text.specs.BoundsLaws.{length-white-in-range, length-rgb-text}
+use Rattle.profile.specs.Plan.{Plan, xyb, maxLetters}
+use Rattle.profile.specs.Layout.{layout}
+use Rattle.profile.specs.LayoutLaws.{length-layout}
 use Rattle.profile.specs.Elements.{fileLength, start, bodySize, tagCount, padding}
 use Rattle.profile.specs.Shape.{isGamma, hasCicp, slotsOf}
 use Rattle.profile.specs.declared.Kind.the-variants.{Gray, Rgb}
@@ -35,9 +40,12 @@ use Rattle.profile.specs.declared.Curve.the-variants.{Named, Gamma}
 use Rattle.profile.specs.declared.CurveName.{CurveName}
 use Rattle.profile.specs.declared.CurveName.the-variants as Name
 use Rattle.encoding_plan.specs.Answers.{reciprocalRefusal}
-use Rattle.encoding_plan.specs.PlanOf.{supported, curveOf, cicpOf}
-use Rattle.encoding_plan.specs.declared.curve.SupportedCurve.{SupportedCurve}
-use Rattle.encoding_plan.specs.declared.curve.SupportedCurve.the-variants as Supported
+use Rattle.encoding_plan.specs.PlanOf.{supported, curveOf, grayNumbers, chadNumbers, columnNumbers, cicpOf, grayPlan, rgbPlan, planOf}
+use Rattle.encoding_plan.specs.WhiteLaws.{white-in-range}
+use Rattle.writer.specs.Writer.{maxWritten}
+use Rattle.writer_laws.specs.PlanLaws.{chad-nine, columns-nine}
+use Rattle.encoding_curve.specs.declared.SupportedCurve.{SupportedCurve}
+use Rattle.encoding_curve.specs.declared.SupportedCurve.the-variants as Supported
 
 -- ---- the letters beside a named curve
 
@@ -97,7 +105,7 @@ module _ (w : JxlWhitePoint) (p : JxlPrimaries) (i : RenderingIntent) (r : InRan
       → length (description (RgbColorSpace w p t i)) ≤ mostLetters c
   named-most t n l h e = rw (← named-curve n e f) (named-letters w p t i r (h .1 .0) l)
 
-  pub rgb-letters : (t : JxlTransferFunction) → HeldEncoding (RgbColorSpace w p t i) → supported t ≡ is s → length (description (RgbColorSpace w p t i)) ≤ mostLetters c
+  rgb-letters : (t : JxlTransferFunction) → HeldEncoding (RgbColorSpace w p t i) → supported t ≡ is s → length (description (RgbColorSpace w p t i)) ≤ mostLetters c
   unfolding transferName
   rgb-letters F.BT709 h e = named-most F.BT709 Name.BT709 refl h e
   rgb-letters F.Linear h e = named-most F.Linear Name.Linear refl h e
@@ -109,21 +117,49 @@ module _ (w : JxlWhitePoint) (p : JxlPrimaries) (i : RenderingIntent) (r : InRan
 
 -- ---- the lengths of the files
 
-pub gray-most : (n : ℕ) (g : Bool) → n ≤ 372 → fileLength (slotsOf (record { kind = Gray; letters = n; gamma = g; cicp = false })) ≤ 1200
+gray-most : (n : ℕ) (g : Bool) → n ≤ maxLetters → fileLength (slotsOf (record { kind = Gray; letters = n; gamma = g; cicp = false })) ≤ maxWritten
 unfolding slotsOf fileLength start bodySize tagCount padding
 gray-most n true h = omega arith
 gray-most n false h = omega arith
 
-gamma-most : (n : ℕ) → n ≤ 372 → fileLength (slotsOf (record { kind = Rgb; letters = n; gamma = true; cicp = false })) ≤ 1200
+gamma-most : (n : ℕ) → n ≤ maxLetters → fileLength (slotsOf (record { kind = Rgb; letters = n; gamma = true; cicp = false })) ≤ maxWritten
 unfolding slotsOf fileLength start bodySize tagCount padding
 gamma-most n h = omega arith
 
-named-file : (n : ℕ) (v : Bool) → n ≤ 326 → fileLength (slotsOf (record { kind = Rgb; letters = n; gamma = false; cicp = v })) ≤ 1200
+named-file : (n : ℕ) (v : Bool) → n ≤ 326 → fileLength (slotsOf (record { kind = Rgb; letters = n; gamma = false; cicp = v })) ≤ maxWritten
 unfolding slotsOf fileLength start bodySize tagCount padding
 named-file n true h = omega arith
 named-file n false h = omega arith
 
-pub rgb-most : (w : JxlWhitePoint) (p : JxlPrimaries) (n : ℕ) (c : Curve) → n ≤ mostLetters c
-    → fileLength (slotsOf (record { kind = Rgb; letters = n; gamma = isGamma c; cicp = hasCicp (cicpOf w p c) })) ≤ 1200
+rgb-most : (w : JxlWhitePoint) (p : JxlPrimaries) (n : ℕ) (c : Curve) → n ≤ mostLetters c
+    → fileLength (slotsOf (record { kind = Rgb; letters = n; gamma = isGamma c; cicp = hasCicp (cicpOf w p c) })) ≤ maxWritten
 rgb-most w p n (Named m) h = named-file n (hasCicp (cicpOf w p (Named m))) h
 rgb-most w p n (Gamma g) h = gamma-most n h
+
+-- ---- every encoding
+
+pub at-most : (e : JxlColorEncoding) → HeldEncoding e → {p : Plan} → planOf e ≡ is p → length (layout p) ≤ maxWritten
+unfolding planOf slotsOf fileLength start bodySize tagCount padding
+at-most (GrayscaleColorSpace w t i) held {p} e =
+    let s = both (supported t) _ e in
+    let n = both (grayNumbers (whiteXy w)) _ (s .second) in
+    let c = both (curveOf (s .value)) _ (n .second) in
+    let same : grayPlan (GrayscaleColorSpace w t i) i (c .value) (n .value) ≡ p = cc (c .second) in
+    rw (← same, length-layout (grayPlan (GrayscaleColorSpace w t i) i (c .value) (n .value)) tt)
+    (gray-most (length (description (GrayscaleColorSpace w t i))) (isGamma (c .value)) (length-in-range (GrayscaleColorSpace w t i) held tt))
+at-most (RgbColorSpace w q t i) held {p} e =
+    let s = both (supported t) _ e in
+    let m = both (chadNumbers (whiteXy w)) _ (s .second) in
+    let k = both (columnNumbers (primariesXy q) (whiteXy w)) _ (m .second) in
+    let c = both (curveOf (s .value)) _ (k .second) in
+    let plan = rgbPlan (RgbColorSpace w q t i) i (c .value) (cicpOf w q (c .value)) (m .value) (k .value) in
+    let same : plan ≡ p = cc (c .second) in
+    rw (← same, length-layout plan (chad-nine (whiteXy w) (m .first), columns-nine (primariesXy q) (whiteXy w) (k .first)))
+    (rgb-most w q (length (description (RgbColorSpace w q t i))) (c .value) (rgb-letters w q i (white-in-range w (m .first)) (c .first) t held (s .first)))
+at-most (XYB Perceptual) held {p} e =
+    let plan : Plan = record { intent = 0; content = xyb } in
+    let same : plan ≡ p = cc in
+    rw (← same, length-layout plan tt) (lit≤ tt)
+at-most (XYB Relative) held e = absurd (never e)
+at-most (XYB Saturation) held e = absurd (never e)
+at-most (XYB Absolute) held e = absurd (never e)

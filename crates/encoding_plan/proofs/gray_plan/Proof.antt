@@ -9,7 +9,8 @@ use Rattle.buffer.specs.Checked.{is}
 use Rattle.color_encoding.specs.Coordinates.{whiteXy}
 use Rattle.encoding_plan.specs.PlanOf.{supported, grayNumbers}
 use Rattle.encoding_plan.specs.PlanOfLaws.{gray-unsupported, gray-no-numbers, gray-no-curve, gray-plan}
-use Rattle.encoding_plan.specs.Answers.{checkedSupport, checkedCurve, checkedGrayNumbers}
+use Rattle.encoding_curve.specs.CurveOf.{checkedSupport, checkedCurve}
+use Rattle.encoding_numbers.specs.NumbersOf.{checkedGrayNumbers}
 use Rattle.encoding_plan.specs.AnswersLaws.{positive, plan-refused}
 use Rattle.encoding_plan.proofs.gray_plan.Statement.{statement}
 use Rattle.encoding_plan.proofs.gray_plan.Tie as tie

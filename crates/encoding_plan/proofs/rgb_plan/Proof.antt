@@ -7,7 +7,8 @@ use Rattle.buffer.specs.Checked.{is}
 use Rattle.color_encoding.specs.Coordinates.{whiteXy, primariesXy}
 use Rattle.encoding_plan.specs.PlanOf.{supported, chadNumbers, columnNumbers}
 use Rattle.encoding_plan.specs.PlanOfLaws.{rgb-unsupported, rgb-no-chad, rgb-no-columns, rgb-no-curve, rgb-plan}
-use Rattle.encoding_plan.specs.Answers.{checkedSupport, checkedCurve, checkedNineNumbers}
+use Rattle.encoding_curve.specs.CurveOf.{checkedSupport, checkedCurve}
+use Rattle.encoding_numbers.specs.NumbersOf.{checkedNineNumbers}
 use Rattle.encoding_plan.specs.AnswersLaws.{positive, plan-refused}
 use Rattle.encoding_plan.proofs.rgb_plan.Statement.{statement}
 use Rattle.encoding_plan.proofs.rgb_plan.Tie as tie

@@ -6,7 +6,7 @@ use Rattle.buffer.specs.Checked.{is}
 use Rattle.linalg.specs.Linalg.{rows}
 use Rattle.colorimetry.specs.Adapt.{invalidWhitePoint}
 use Rattle.colorimetry.specs.Primaries.{matrixInversionFailed, createIccRgbMatrix, checkedConversion}
-use Rattle.colorimetry.specs.OutputLaws.{expected-if}
+use Rattle.buffer.specs.OutputsLaws.{expected-if}
 use Rattle.validate.specs.Validate.{allS15Fixed16}
 use Rattle.validate.proofs.validate_matrix.Statement.{statement}
 use Rattle.validate.proofs.validate_matrix.Tie as tie

@@ -4,7 +4,7 @@ use mathlib.Core.List.{[], _∷_}
 use borrow.Author.Tests.{not-true, not-false}
 use borrow.Author.Needs.{needs}
 use Rattle.buffer.specs.Checked.{is}
-use Rattle.colorimetry.specs.GrayWhite.{invalidWhitePointY, cieXyzFromWhiteCieXy, checkedWhiteXyz}
+use Rattle.white_point.specs.GrayWhite.{invalidWhitePointY, cieXyzFromWhiteCieXy, checkedWhiteXyz}
 use Rattle.validate.proofs.validate_white.Statement.{statement}
 use Rattle.validate.proofs.validate_white.Tie as tie
 

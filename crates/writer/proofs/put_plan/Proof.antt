@@ -85,7 +85,7 @@ cast-t15 : tie.Need-cast-t15
 cast-t15 c =
     let put = c .before .before in
     let d = described (put .before .before .before .before) in
-    short-layout (planned d) (nines d) (few d) ((rw (passed-on d) at (put .put-plan .ensures)) .0)
+    short-layout (planned d) (nines d) (few d) ((rw (passed-on d) at (put .put-plan .ensures)) .place)
 
 same-length : tie.Need-same-length
 same-length c = search needs

@@ -3,11 +3,11 @@ use mathlib.Core.Path.{_≡_, sym, ap, _∙_}
 use borrow.Author.Needs.{needs}
 use Rattle.colorimetry.specs.Adapt.{invalidWhitePoint}
 use Rattle.colorimetry.specs.Primaries.{matrixInversionFailed, checkedConversion, createIccRgbMatrix}
-use Rattle.colorimetry.specs.OutputLaws.{expected-if}
+use Rattle.buffer.specs.OutputsLaws.{expected-if}
 use Rattle.buffer.specs.Checked.{is, each}
 use Rattle.numbers.specs.Fixed.{fixedOr}
-use Rattle.encoding_plan.proofs.fixed.column_numbers.Statement.{statement}
-use Rattle.encoding_plan.proofs.fixed.column_numbers.Tie as tie
+use Rattle.encoding_numbers.proofs.column_numbers.Statement.{statement}
+use Rattle.encoding_numbers.proofs.column_numbers.Tie as tie
 
 create-icc-rgb-matrix-requires : tie.Need-create-icc-rgb-matrix-requires
 create-icc-rgb-matrix-requires c κs = search needs

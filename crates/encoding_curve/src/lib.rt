@@ -7,8 +7,7 @@ use profile::Cicp;
 use profile::Curve;
 use profile::CurveName;
 ghost use mathlib.Core.Path.{_≡_};
-ghost use Rattle.encoding_plan.specs.PlanOf.{supported, curveOf, cicpOf};
-ghost use Rattle.encoding_plan.specs.Answers.{checkedSupport, checkedCurve};
+ghost use Rattle.encoding_curve.specs.CurveOf.{checkedSupport, checkedCurve, supported, curveOf, cicpOf};
 
 // A transfer function that a profile can have: a named curve, or a gamma g.
 pub enum SupportedCurve {

@@ -6,9 +6,9 @@ use mir.ValLaws.{toZ-ofZ}
 use borrow.Author.Needs.{sfits-of, needs}
 use Rattle.profile.specs.declared.Curve.the-variants.{Gamma}
 use Rattle.buffer.specs.Checked.{is}
-use Rattle.encoding_plan.specs.PlanOf.{curveOf}
-use Rattle.encoding_plan.proofs.curve.curve_of.Statement.{statement}
-use Rattle.encoding_plan.proofs.curve.curve_of.Tie as tie
+use Rattle.encoding_curve.specs.CurveOf.{curveOf}
+use Rattle.encoding_curve.proofs.curve_of.Statement.{statement}
+use Rattle.encoding_curve.proofs.curve_of.Tie as tie
 
 enum-known-curve : tie.Need-enum-known-curve
 enum-known-curve c = search needs

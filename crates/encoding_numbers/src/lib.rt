@@ -3,14 +3,13 @@ use color_encoding::PrimariesXy;
 use color_encoding::WhiteXy;
 use colorimetry::Adaptation;
 use colorimetry::Conversion;
-use colorimetry::WhiteXyz;
 use numbers::S15Fixed16;
+use white_point::WhiteXyz;
 ghost use mathlib.Core.Path.{_≡_};
 ghost use Prim.Native.Nat.{_<_};
 ghost use Rattle.buffer.specs.Checked.{each};
 ghost use Rattle.numbers.specs.Fixed.{fixedOr};
-ghost use Rattle.encoding_plan.specs.PlanOf.{grayNumbers, chadNumbers, columnNumbers};
-ghost use Rattle.encoding_plan.specs.Answers.{checkedGrayNumbers, checkedNineNumbers};
+ghost use Rattle.encoding_numbers.specs.NumbersOf.{checkedGrayNumbers, checkedNineNumbers, grayNumbers, chadNumbers, columnNumbers};
 
 // X and Z of a gray white, or their refusal, which is 0 where there is none.
 pub struct GrayNumbers {
@@ -29,7 +28,7 @@ pub struct NineNumbers {
 pub fn gray_numbers(white: WhiteXy) -> GrayNumbers
     ensures { λ r. ⌜ checkedGrayNumbers r ≡ grayNumbers white ⌝ }
 {
-    match colorimetry::cie_xyz_from_white_cie_xy(white) {
+    match white_point::cie_xyz_from_white_cie_xy(white) {
         WhiteXyz::Xyz { x, y: _, z } => match numbers::to_s15_fixed_16(x) {
             S15Fixed16::Number(a) => match numbers::to_s15_fixed_16(z) {
                 S15Fixed16::Number(b) => GrayNumbers {

@@ -2,11 +2,11 @@
 use mathlib.Core.Path.{_≡_, sym, ap, _∙_}
 use borrow.Author.Needs.{needs}
 use Rattle.colorimetry.specs.Adapt.{invalidWhitePoint, checkedAdaptation, chadMatrix}
-use Rattle.colorimetry.specs.OutputLaws.{expected-if}
+use Rattle.buffer.specs.OutputsLaws.{expected-if}
 use Rattle.buffer.specs.Checked.{is, each}
 use Rattle.numbers.specs.Fixed.{fixedOr}
-use Rattle.encoding_plan.proofs.fixed.chad_numbers.Statement.{statement}
-use Rattle.encoding_plan.proofs.fixed.chad_numbers.Tie as tie
+use Rattle.encoding_numbers.proofs.chad_numbers.Statement.{statement}
+use Rattle.encoding_numbers.proofs.chad_numbers.Tie as tie
 
 chad-matrix-requires : tie.Need-chad-matrix-requires
 chad-matrix-requires c κs = search needs

@@ -10,9 +10,9 @@ use mir.ValLaws.{toZ-ofZ}
 use borrow.Author.Needs.{needs, sfits-of}
 use borrow.Author.Tests.{ne-eqb}
 use Rattle.numbers.specs.Fixed.{fixedOr}
-use Rattle.encoding_plan.proofs.Each.{SoFar, none-yet, passed, stopped, all-passed}
-use Rattle.encoding_plan.proofs.fixed.fixed_numbers.Statement.{statement}
-use Rattle.encoding_plan.proofs.fixed.fixed_numbers.Tie as tie
+use Rattle.encoding_numbers.proofs.Each.{SoFar, none-yet, passed, stopped, all-passed}
+use Rattle.encoding_numbers.proofs.fixed_numbers.Statement.{statement}
+use Rattle.encoding_numbers.proofs.fixed_numbers.Tie as tie
 
 abbrev Inv-loop : tie.InvT-loop
 Inv-loop refusal v values₀ k₀ values k = (k ≤ 9) × (length values ≡ 9) × SoFar (fixedOr refusal) v k values

@@ -6,9 +6,9 @@ use mir.Syntax.{w32}
 use mir.ValLaws.{toZ-ofZ}
 use borrow.Author.Needs.{sfits-of, needs}
 use Rattle.buffer.specs.Checked.{is}
-use Rattle.colorimetry.specs.GrayWhite.{invalidWhitePointY, cieXyzFromWhiteCieXy, checkedWhiteXyz}
-use Rattle.encoding_plan.proofs.fixed.gray_numbers.Statement.{statement}
-use Rattle.encoding_plan.proofs.fixed.gray_numbers.Tie as tie
+use Rattle.white_point.specs.GrayWhite.{invalidWhitePointY, cieXyzFromWhiteCieXy, checkedWhiteXyz}
+use Rattle.encoding_numbers.proofs.gray_numbers.Statement.{statement}
+use Rattle.encoding_numbers.proofs.gray_numbers.Tie as tie
 
 cie-xyz-from-white-cie-xy-requires : tie.Need-cie-xyz-from-white-cie-xy-requires
 cie-xyz-from-white-cie-xy-requires c κs = search needs

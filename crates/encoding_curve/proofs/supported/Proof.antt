@@ -1,9 +1,9 @@
 -- `supported` meets its contract: each arm knows its transfer function.
 use mathlib.Core.Path.{sym, ap}
 use borrow.Author.Needs.{needs}
-use Rattle.encoding_plan.specs.PlanOf.{supported}
-use Rattle.encoding_plan.proofs.curve.supported.Statement.{statement}
-use Rattle.encoding_plan.proofs.curve.supported.Tie as tie
+use Rattle.encoding_curve.specs.CurveOf.{supported}
+use Rattle.encoding_curve.proofs.supported.Statement.{statement}
+use Rattle.encoding_curve.proofs.supported.Tie as tie
 
 enum-told : tie.Need-enum-told
 enum-told c = search needs

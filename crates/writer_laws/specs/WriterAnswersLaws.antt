@@ -1,0 +1,182 @@
+-- The writer's answer to gray, to RGB and to XYB, check by check. Assumes nothing.
+use Prim.Native.Nat.{ℕ}
+use mathlib.Core.Path.{_≡_, refl, sym, ap, subst, _∙_}
+use mathlib.Core.Bool.{Bool, true, false}
+use mathlib.Core.List.{List, [], _∷_}
+use native.Mathlib.Omega.{arith}
+use lib.ListN.{length}
+use lib.IntN.{ℤ}
+use lib.Ieee.{Float, lt}
+use Rattle.buffer.specs.Checked.{Checked, is, refused, then, each}
+use Rattle.buffer.specs.CheckedLaws.{never}
+use Rattle.buffer.specs.First.{fails}
+use Rattle.buffer.specs.FirstLaws.{first-unique, first-not-all}
+use Rattle.floats.specs.Abs.{abs}
+use Rattle.floats.specs.Binary32.{_⊘_, one}
+use Rattle.numbers.specs.Fixed.{fixedOr}
+use Rattle.linalg.specs.Linalg.{component, rows, columns}
+use Rattle.matrix_inverse.specs.Inverse.{singular}
+use Rattle.color_encoding.specs.Coordinates.{whiteXy, primariesXy}
+use Rattle.color_encoding.specs.Intent.{intentNumber}
+use Rattle.color_encoding.specs.declared.WhiteXy.{WhiteXy}
+use Rattle.color_encoding.specs.declared.PrimariesXy.{PrimariesXy}
+use Rattle.color_encoding.specs.declared.RenderingIntent.{RenderingIntent}
+use Rattle.color_encoding.specs.declared.RenderingIntent.the-variants.{Perceptual, Relative, Saturation, Absolute}
+use Rattle.color_encoding.specs.declared.JxlWhitePoint.{JxlWhitePoint}
+use Rattle.color_encoding.specs.declared.JxlPrimaries.{JxlPrimaries}
+use Rattle.color_encoding.specs.declared.JxlTransferFunction.{JxlTransferFunction}
+use Rattle.color_encoding.specs.declared.JxlTransferFunction.the-variants as F
+use Rattle.color_encoding.specs.declared.JxlColorEncoding.{JxlColorEncoding}
+use Rattle.color_encoding.specs.declared.JxlColorEncoding.the-variants.{RgbColorSpace, GrayscaleColorSpace, XYB}
+use Rattle.white_point.specs.GrayWhite.{epsilon, cieXyzFromWhiteCieXy}
+use Rattle.white_point.specs.GrayWhiteLaws.{white-given, white-refused}
+use Rattle.colorimetry.specs.Adapt.{adaptable, chadMatrix}
+use Rattle.colorimetry.specs.AdaptLaws.{chad-given, chad-refused, matrix-given, matrix-refused}
+use Rattle.colorimetry.specs.Primaries.{primariesMatrix, createIccRgbMatrix}
+use Rattle.profile.specs.Plan.{Plan, xyb}
+use Rattle.profile.specs.declared.Curve.{Curve}
+use Rattle.profile.specs.declared.Curve.the-variants.{Named, Gamma}
+use Rattle.profile.specs.declared.CurveName.{CurveName}
+use Rattle.profile.specs.declared.CurveName.the-variants as Name
+use Rattle.encoding_plan.specs.Answers.{reciprocalRefusal}
+use Rattle.encoding_plan.specs.PlanOf.{supported, curveOf, grayNumbers, chadNumbers, columnNumbers, cicpOf, grayPlan, rgbPlan, planOf}
+use Rattle.encoding_curve.specs.declared.SupportedCurve.{SupportedCurve}
+use Rattle.encoding_curve.specs.declared.SupportedCurve.the-variants as Supported
+use Rattle.profile.specs.Layout.{layout}
+use Rattle.writer.specs.Writer.{answer}
+use Rattle.writer.specs.declared.Profile.{Profile}
+use Rattle.writer.specs.declared.Profile.the-variants.{Written, Refused}
+use Rattle.writer_laws.specs.RefusalList.{Fits, NeitherPqNorHlg, ReciprocalFits, chadOf, matrixOf, grayX, grayZ, Check, c1, c2, c3, c4, c5, c6, c7, c8, c9, number, checks, Answers, refuses as refuses-by, writes as writes-it}
+use Rattle.writer_laws.specs.RefusalListLaws.{Decides, passes, refuses, DecidesAs, decides-by, value-of, both-decide, fixed-decides, each-decides, test-decides, From, stops, writes, onward, step, step-as, apart, last}
+
+-- ---- the curve
+
+neither : (t : JxlTransferFunction) {s : SupportedCurve} → supported t ≡ is s → NeitherPqNorHlg t
+neither t h = (λ e. never (sym (ap supported e) ∙ h), λ e. never (sym (ap supported e) ∙ h))
+
+supported-decides : (t : JxlTransferFunction) → Decides (NeitherPqNorHlg t) 1 (supported t)
+supported-decides F.BT709 = passes (neither F.BT709 refl) (Supported.Named Name.BT709) refl
+supported-decides F.Linear = passes (neither F.Linear refl) (Supported.Named Name.Linear) refl
+supported-decides F.SRGB = passes (neither F.SRGB refl) (Supported.Named Name.SRGB) refl
+supported-decides F.DCI = passes (neither F.DCI refl) (Supported.Named Name.DCI) refl
+supported-decides (F.Gamma g) = passes (neither (F.Gamma g) refl) (Supported.Gamma g) refl
+supported-decides F.PQ = refuses (λ n. n .0 refl) refl
+supported-decides F.HLG = refuses (λ n. n .1 refl) refl
+
+same-gamma : {g k : Float} → is (Supported.Gamma k) ≡ is (Supported.Gamma g) → k ≡ g
+same-gamma e = cc
+
+not-named : {A : Type 0} {g : Float} {n : CurveName} → is (Supported.Gamma g) ≡ is (Supported.Named n) → A
+not-named e = let z : _≡_ {A = ℕ} 0 1 = cc in absurd (omega arith)
+
+gamma-if : (t : JxlTransferFunction) {g : Float} → supported t ≡ is (Supported.Gamma g) → t ≡ F.Gamma g
+gamma-if (F.Gamma k) e = ap F.Gamma (same-gamma e)
+gamma-if F.BT709 e = not-named (sym e)
+gamma-if F.Linear e = not-named (sym e)
+gamma-if F.SRGB e = not-named (sym e)
+gamma-if F.DCI e = not-named (sym e)
+gamma-if F.PQ e = absurd (never e)
+gamma-if F.HLG e = absurd (never e)
+
+curve-decides : (t : JxlTransferFunction) (s : SupportedCurve) → supported t ≡ is s → Decides (ReciprocalFits t) reciprocalRefusal (curveOf s)
+curve-decides t (Supported.Named n) h = passes (λ g e. not-named (sym (ap supported e) ∙ h)) (Named n) refl
+curve-decides t (Supported.Gamma g) h =
+    decides-by
+    (λ fits k e. subst (λ (x : Float). Fits (one ⊘ x)) (sym (same-gamma (sym (ap supported e) ∙ h))) fits)
+    (λ fits. fits g (gamma-if t h))
+    (value-of Gamma (fixed-decides reciprocalRefusal (one ⊘ g)))
+
+-- ---- white and primaries
+
+white-decides : (w : WhiteXy) → DecidesAs (lt (abs (w .wy)) epsilon ≡ false) 3 (cieXyzFromWhiteCieXy w) (grayX w ∷ one ∷ grayZ w ∷ [])
+white-decides w = test-decides (lt (abs (w .wy)) epsilon) false 3 _ _ (white-given w) (white-refused w)
+
+chad-decides : (w : WhiteXy) → DecidesAs (adaptable w ≡ true) 4 (chadMatrix w) (chadOf w)
+chad-decides w = test-decides (adaptable w) true 4 _ _ (chad-given w) (chad-refused w)
+
+matrix-decides : (p : PrimariesXy) (w : WhiteXy) → adaptable w ≡ true → DecidesAs (singular (primariesMatrix p) ≡ false) 6 (createIccRgbMatrix p w) (matrixOf p w)
+matrix-decides p w ok = test-decides (singular (primariesMatrix p)) false 6 _ _ (matrix-given w p ok) (matrix-refused w p ok)
+
+-- ---- the three kinds
+
+module _ (w : JxlWhitePoint) (t : JxlTransferFunction) (i : RenderingIntent) (n : ℕ) where
+  abbrev gray : JxlColorEncoding
+  gray = GrayscaleColorSpace w t i
+
+  pub gray-answered : From gray n checks (answer (planOf gray) n)
+  unfolding planOf
+  gray-answered =
+      let xy = whiteXy w in
+      step gray n c1 _ (supported-decides t) (λ s _ a.
+      onward gray n tt
+      (apart gray n (cieXyzFromWhiteCieXy xy) _ _
+      (step-as gray n c3 (grayX xy ∷ one ∷ grayZ xy ∷ []) _ (white-decides xy) (λ _ b.
+      onward gray n tt
+      (onward gray n tt
+      (onward gray n tt
+      (step gray n c7 _ (both-decide (fixed-decides 7 (grayX xy)) (λ x. value-of (λ z. (x, z)) (fixed-decides 7 (grayZ xy)))) (λ xz _ c.
+      step gray n c8 _ (curve-decides t s a) (λ k _ d.
+      last gray n (grayPlan gray i k xz) (rw (a, b, c, d) refl))))))))))
+
+module _ (w : JxlWhitePoint) (p : JxlPrimaries) (t : JxlTransferFunction) (i : RenderingIntent) (n : ℕ) where
+  abbrev color : JxlColorEncoding
+  color = RgbColorSpace w p t i
+
+  pub rgb-answered : From color n checks (answer (planOf color) n)
+  unfolding planOf
+  rgb-answered =
+      let xy = whiteXy w in
+      let ps = primariesXy p in
+      step color n c1 _ (supported-decides t) (λ s _ a.
+      onward color n tt
+      (onward color n tt
+      (apart color n (chadMatrix xy) _ _
+      (step-as color n c4 (chadOf xy) _ (chad-decides xy) (λ ok b.
+      step color n c5 _ (each-decides 5 (rows (chadOf xy))) (λ m _ c.
+      apart color n (createIccRgbMatrix ps xy) _ _
+      (step-as color n c6 (matrixOf ps xy) _ (matrix-decides ps xy ok) (λ _ d.
+      step color n c7 _ (each-decides 7 (columns (matrixOf ps xy))) (λ k _ e.
+      step color n c8 _ (curve-decides t s a) (λ v _ f.
+      last color n (rgbPlan color i v (cicpOf w p v) m k) (rw (a, b, c, d, e, f) refl)))))))))))
+
+pub xyb-answered : (i : RenderingIntent) (n : ℕ) → From (XYB i) n checks (answer (planOf (XYB i)) n)
+unfolding planOf
+xyb-answered i n = onward (XYB i) n tt (go i)
+  where
+    other : {i : RenderingIntent} → planOf (XYB i) ≡ refused 2 → i ≡ Perceptual → ⊥
+    other h e = never (sym h ∙ ap (λ (j : RenderingIntent). planOf (XYB j)) e)
+
+    go : (i : RenderingIntent) → From (XYB i) n (c2 ∷ c3 ∷ c4 ∷ c5 ∷ c6 ∷ c7 ∷ c8 ∷ c9 ∷ []) (answer (planOf (XYB i)) n)
+    go Perceptual =
+        let e = XYB Perceptual in
+        onward e n refl
+        (onward e n tt
+        (onward e n tt
+        (onward e n tt
+        (onward e n tt
+        (onward e n tt
+        (onward e n tt
+        (last e n (record { intent = intentNumber Perceptual; content = xyb }) refl)))))))
+    go Relative = stops (fails (other refl))
+    go Saturation = stops (fails (other refl))
+    go Absolute = stops (fails (other refl))
+
+-- ---- every encoding
+
+pub answered : (e : JxlColorEncoding) (n : ℕ) → Answers e n (answer (planOf e) n)
+answered e n = given (go e)
+  where
+    go : (e : JxlColorEncoding) → From e n checks (answer (planOf e) n)
+    go (GrayscaleColorSpace w t i) = gray-answered w t i n
+    go (RgbColorSpace w p t i) = rgb-answered w p t i n
+    go (XYB i) = xyb-answered i n
+
+    given : {a : Profile} → From e n checks a → Answers e n a
+    given (stops f) = refuses-by f
+    given (writes p h all) = writes-it p h all
+
+pub answer-unique : {e : JxlColorEncoding} {n : ℕ} {a b : Profile} → Answers e n a → Answers e n b → a ≡ b
+answer-unique (refuses-by f) (refuses-by g) = ap (λ (c : Check). Refused (number c)) (first-unique f g)
+answer-unique (refuses-by f) (writes-it p h all) = absurd (first-not-all f all)
+answer-unique (writes-it p h all) (refuses-by g) = absurd (first-not-all g all)
+answer-unique (writes-it p h _) (writes-it q k _) = let same : p ≡ q = cc (sym h ∙ k) in ap (λ (r : Plan). Written (length (layout r))) same
