@@ -4,7 +4,7 @@ use mathlib.Core.Path.{_≡_, refl, ap}
 use native.Mathlib.Omega.{arith}
 use Rattle.profile.specs.Plan.{Plan}
 use Rattle.reader_spec.specs.RefusalList.{Answer, refused, accepted, Check, number, refusalNumber, c21, c22, c23, c24, c25, c26, c27, c28}
-use Rattle.reader.specs.Reading.{reading, refusedWith}
+use Rattle.reading.specs.Reading.{reading, refusedWith}
 
 some-number : (c : Check) → 1 ≤ number c
 some-number c21 = omega arith

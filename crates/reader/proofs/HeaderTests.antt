@@ -19,8 +19,8 @@ use Rattle.reader_spec.specs.RefusalList.{Header}
 use Rattle.reader_spec.specs.Read.{read, fromTable, fromBody}
 use Rattle.reader_spec.specs.Steps.{Sized, Headed, Tabled}
 use Rattle.reader_spec.specs.StepsLaws.{read-23, read-24, read-table, table-25, table-body}
-use Rattle.reader.specs.declared.Reading.{Reading}
-use Rattle.reader.specs.Reading.{refusedWith, reading}
+use Rattle.reading.specs.declared.Reading.{Reading}
+use Rattle.reading.specs.Reading.{refusedWith, reading}
 
 -- a file of a kind with the answer b of `header_is` and the intent i
 pub record Tested (k : Kind) (f : List ℕ) (b : Bool) (i : ℕ) : Type 0 where

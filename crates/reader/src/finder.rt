@@ -13,16 +13,8 @@ pub fn find(file: &[u8], signature: [u8; 4]) -> &[u8]
     if answer.refusal != 0 {
         return &file[0..0];
     }
-    let tags = fields::tag_count(file) as usize;
-    let mut i = 0usize;
-    while i < tags {
-        let at = fields::FIRST_LINE + tag_table::ENTRY_SIZE * i;
-        if buffer::same_bytes(&file[at..at + fields::LINE_OFFSET], &signature) {
-            let offset = numbers::read_u32_be(file, at + fields::LINE_OFFSET) as usize;
-            let size = numbers::read_u32_be(file, at + fields::LINE_ELEMENT_SIZE) as usize;
-            return &file[offset..offset + size];
-        }
-        i += 1;
-    }
-    &file[0..0]
+    let line = fields::line_of(file, signature);
+    let offset = line.offset as usize;
+    let size = line.size as usize;
+    &file[offset..offset + size]
 }

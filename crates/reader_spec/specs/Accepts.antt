@@ -5,6 +5,7 @@ use mathlib.Core.Logic.{_↔_}
 use mathlib.Core.List.{List}
 use lib.ListN.{length}
 use Rattle.profile.specs.Plan.{Plan, InRange, Valid}
+use Rattle.profile.specs.Shape.{minLength, maxLength}
 use Rattle.profile.specs.Layout.{layout}
 use Rattle.profile.specs.LayoutLaws.{layout-bounds}
 use Rattle.reader_spec.specs.FileLaws.{layout-injective, valid-wide}
@@ -37,8 +38,8 @@ reads-back p v = accepts-exactly (layout p) p .1 (v, refl)
 -- ---- who owns the bytes of an accepted file
 
 -- in an accepted file each byte has exactly one owner, and the length is the sum; it has 284 to 1,240 bytes
-pub accepted-owned : (f : List ℕ) (p : Plan) → read f ≡ accepted p → Owned f × (284 ≤ length f) × (length f ≤ 1240)
+pub accepted-owned : (f : List ℕ) (p : Plan) → read f ≡ accepted p → Owned f × (minLength ≤ length f) × (length f ≤ maxLength)
 accepted-owned f p e =
     let h : Valid p × (layout p ≡ f) = accepts-exactly f p .0 e in
-    let n : (284 ≤ length (layout p)) × (length (layout p) ≤ 1240) = layout-bounds InRange p (h .0) in
+    let n : (minLength ≤ length (layout p)) × (length (layout p) ≤ maxLength) = layout-bounds InRange p (h .0) in
     (subst Owned (h .1) (owned-layout p (h .0)), rw (h .1) at (n .0), rw (h .1) at (n .1))

@@ -7,8 +7,8 @@ use lib.IntN.{ℤ}
 use lib.ListN.{length, take, drop, length-drop}
 use mir.Syntax.{w32}
 use mir.Val.{SFits}
-use Rattle.numbers.specs.Words.{Byte, be32, word32, twosComplement32, signed32}
-use Rattle.numbers.specs.WordsLaws.{byte-at, bytes-drop, be32-front, number-fits, number-read}
+use Rattle.words.specs.Words.{Byte, be32, word32, twosComplement32, signed32}
+use Rattle.words.specs.WordsLaws.{byte-at, bytes-drop, be32-front, number-fits, number-read}
 use Rattle.buffer.specs.All.{All, none, more}
 use Rattle.buffer.specs.Bytes.{zeros}
 use Rattle.profile.specs.Signatures as Sig

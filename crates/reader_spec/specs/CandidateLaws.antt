@@ -9,13 +9,13 @@ use lib.IntN.{ℤ}
 use lib.ListN.{length, take, drop, getD, length-drop}
 use mir.Syntax.{w32}
 use mir.Val.{SFits}
-use Rattle.numbers.specs.Words.{word32}
+use Rattle.words.specs.Words.{word32}
 use Rattle.buffer.specs.All.{All}
 use Rattle.buffer.specs.AllLaws.{All-append}
 use Rattle.buffer.specs.Ascii.{isAscii}
 use Rattle.buffer.specs.AsciiLaws.{ascii-if, ascii-of}
 use Rattle.buffer.specs.BoolLaws.{true≢false, both, both-left, both-right}
-use Rattle.numbers.specs.WordsLaws.{bytes-drop, number-fits}
+use Rattle.words.specs.WordsLaws.{bytes-drop, number-fits}
 use Rattle.profile.specs.Elements.{Entry, start, table, body, bodySize, fileLength, entries, padding}
 use Rattle.profile.specs.Plan.{Plan, Content, gray, rgb, xyb, kind, maxLetters, GoodText, GoodCicp, GoodContent, Wide}
 use Rattle.profile.specs.PlanLaws.{plan-of-numbers, good-nines, slots-shape}

@@ -8,8 +8,8 @@ use lib.ListN.{length, take, drop, length-append}
 use lib.Seq.{take-at, drop-drop}
 use mir.Syntax.{w32}
 use mir.Val.{SFits}
-use Rattle.numbers.specs.Words.{be32, word32}
-use Rattle.numbers.specs.WordsLaws.{length-be16, length-be32, word32-be32}
+use Rattle.words.specs.Words.{be32, word32}
+use Rattle.words.specs.WordsLaws.{length-be16, length-be32, word32-be32}
 use Rattle.buffer.specs.Bytes.{zeros, same}
 use Rattle.buffer.specs.All.{All, none, more}
 use Rattle.md5.specs.Md5.{md5}

@@ -8,7 +8,7 @@ use mathlib.Core.List.{List, [], _∷_, _++_, map}
 use native.Mathlib.Omega.{arith}
 use lib.ListN.{length, take, drop}
 use Rattle.buffer.specs.Bytes.{same}
-use Rattle.profile.specs.Elements.{Entry, Element, slot, paddedSize, entry, entries, start, body, bodySize, fileLength}
+use Rattle.profile.specs.Elements.{lineStart, Entry, Element, slot, paddedSize, entry, entries, start, body, bodySize, fileLength}
 use Rattle.profile.specs.Plan.{Plan, InRange, Valid}
 use Rattle.profile.specs.Layout.{elements, slots, layout}
 use Rattle.profile.specs.LayoutLaws.{length-id}
@@ -24,11 +24,11 @@ use Rattle.reader_spec.specs.Accepts.{accepts-exactly}
 use Rattle.reader_spec.specs.Finder.{lineOf, found, isAmong, elementUnder}
 
 module _ (f s : List ℕ) where
-  pub line-is : (i : ℕ) → i < tagsOf f → same (take 4 (drop (132 + 12 * i) f)) s ≡ true → lineOf s (linesFrom f i) absent ≡ lineAt f (132 + 12 * i)
+  pub line-is : (i : ℕ) → i < tagsOf f → same (take 4 (drop (lineStart i) f)) s ≡ true → lineOf s (linesFrom f i) absent ≡ lineAt f (lineStart i)
   unfolding lineOf
   line-is i h e = rw (from-line f i h, e)
 
-  pub line-later : (i : ℕ) → i < tagsOf f → same (take 4 (drop (132 + 12 * i) f)) s ≡ false
+  pub line-later : (i : ℕ) → i < tagsOf f → same (take 4 (drop (lineStart i) f)) s ≡ false
       → lineOf s (linesFrom f i) absent ≡ lineOf s (linesFrom f (i + 1)) absent
   unfolding lineOf
   line-later i h e = rw (from-line f i h, e)
@@ -54,7 +54,7 @@ module _ (f s : List ℕ) where
 
 -- the table and every line's element lie within a file
 record Within (f : List ℕ) : Type 0 where
-  table : 132 + 12 * tagsOf f ≤ length f
+  table : lineStart (tagsOf f) ≤ length f
   line : (s : Span) → In s (spans f) → end s ≤ length f
 
 layout-within : (p : Plan) → Valid p → Within (layout p)
@@ -63,7 +63,7 @@ layout-within p v = record { table = in-table; line = in-line }
     size : length (layout p) ≡ start (slots p) + bodySize (slots p)
     size = unfold fileLength in length-slots InRange p v
 
-    in-table : 132 + 12 * tagsOf (layout p) ≤ length (layout p)
+    in-table : lineStart (tagsOf (layout p)) ≤ length (layout p)
     in-table = rw size (unfold layout start in rw (tags-withId InRange p v _ (length-id _)) (omega arith))
 
     spans-are : spans (layout p) ≡ map span (entries (start (slots p)) (slots p))
@@ -87,7 +87,7 @@ line-within s n (e ∷ es) h = either (same (e .signature) s) (line-within s n e
     either true k = h (span e) (inl refl)
     either false k = k
 
-pub table-within : (f : List ℕ) (p : Plan) → read f ≡ accepted p → 132 + 12 * tagsOf f ≤ length f
+pub table-within : (f : List ℕ) (p : Plan) → read f ≡ accepted p → lineStart (tagsOf f) ≤ length f
 table-within f p e = accepted-within f p e .table
 
 pub found-within : (f s : List ℕ) (p : Plan) → read f ≡ accepted p → found f s .offset + found f s .size ≤ length f

@@ -5,8 +5,8 @@ use mathlib.Core.List.{List}
 use lib.ListN.{drop, getD}
 use mir.Syntax.{w32}
 use mir.Val.{SFits}
-use Rattle.numbers.specs.Words.{Byte}
-use Rattle.numbers.specs.WordsLaws.{bytes-drop, number-fits}
+use Rattle.words.specs.Words.{Byte}
+use Rattle.words.specs.WordsLaws.{bytes-drop, number-fits}
 use Rattle.buffer.specs.All.{All, none, more}
 use Rattle.profile.specs.Plan.{GoodCurve}
 use Rattle.reader_spec.specs.PlanIn.{numbersFrom, curveIn}

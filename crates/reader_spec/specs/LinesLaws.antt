@@ -6,8 +6,8 @@ use native.Mathlib.Nat.{sub-zero, zero-add}
 use native.Mathlib.Omega.{arith}
 use lib.ListN.{length, take, drop, getD}
 use lib.Seq.{drop-drop}
-use Rattle.numbers.specs.Words.{word32}
-use Rattle.profile.specs.Elements.{Entry}
+use Rattle.words.specs.Words.{word32}
+use Rattle.profile.specs.Elements.{lineStart, Entry}
 use Rattle.reader_spec.specs.Table.{tagsOf, lines, entriesOf, absent, lineIn}
 
 -- ---- one line after another
@@ -18,13 +18,13 @@ lineAt f at = record { signature = take 4 (drop at f); offset = word32 (drop (at
 
 -- the lines but the first i
 unfoldable pub linesFrom : List ℕ → ℕ → List Entry
-linesFrom f i = lines (tagsOf f - i) (drop (132 + 12 * i) f)
+linesFrom f i = lines (tagsOf f - i) (drop (lineStart i) f)
 
-pub from-line : (f : List ℕ) (i : ℕ) → i < tagsOf f → linesFrom f i ≡ lineAt f (132 + 12 * i) ∷ linesFrom f (i + 1)
+pub from-line : (f : List ℕ) (i : ℕ) → i < tagsOf f → linesFrom f i ≡ lineAt f (lineStart i) ∷ linesFrom f (i + 1)
 unfolding linesFrom
 from-line f i h =
     let more : tagsOf f - i ≡ suc (tagsOf f - (i + 1)) = omega arith in
-    let past : 132 + 12 * (i + 1) ≡ 132 + 12 * i + 12 = omega arith in
+    let past : lineStart (i + 1) ≡ lineStart i + 12 = omega arith in
     rw (more, past) (unfold lines in rw (drop-drop 4, drop-drop 8, drop-drop 12))
 
 pub from-none : (f : List ℕ) → linesFrom f (tagsOf f) ≡ []
@@ -40,17 +40,17 @@ from-first f = rw (sub-zero (tagsOf f))
 -- ---- the line i
 
 -- i lines further
-from-place : (f : List ℕ) (j i : ℕ) → j + i < tagsOf f → getD (linesFrom f j) i absent ≡ lineAt f (132 + 12 * (j + i))
-from-place f j zero h = rw (from-line f j (omega arith)) (ap (λ (k : ℕ). lineAt f (132 + 12 * k)) (none j))
+from-place : (f : List ℕ) (j i : ℕ) → j + i < tagsOf f → getD (linesFrom f j) i absent ≡ lineAt f (lineStart (j + i))
+from-place f j zero h = rw (from-line f j (omega arith)) (ap (λ (k : ℕ). lineAt f (lineStart k)) (none j))
   where
     none : (j : ℕ) → j ≡ j + 0
     none j = omega arith
 from-place f j (suc i) h =
     let next : j + 1 + i ≡ j + suc i = omega arith in
-    rw (from-line f j (omega arith)) (from-place f (j + 1) i (omega arith) ∙ ap (λ (k : ℕ). lineAt f (132 + 12 * k)) next)
+    rw (from-line f j (omega arith)) (from-place f (j + 1) i (omega arith) ∙ ap (λ (k : ℕ). lineAt f (lineStart k)) next)
 
-pub line-in : (f : List ℕ) (i : ℕ) → i < tagsOf f → lineIn f i ≡ lineAt f (132 + 12 * i)
-line-in f i h = ap (λ es. getD es i absent) (from-first f) ∙ from-place f 0 i (omega arith) ∙ ap (λ (k : ℕ). lineAt f (132 + 12 * k)) (zero-add i)
+pub line-in : (f : List ℕ) (i : ℕ) → i < tagsOf f → lineIn f i ≡ lineAt f (lineStart i)
+line-in f i h = ap (λ es. getD es i absent) (from-first f) ∙ from-place f 0 i (omega arith) ∙ ap (λ (k : ℕ). lineAt f (lineStart k)) (zero-add i)
 
 no-line : (n : ℕ) (l : List ℕ) (i : ℕ) → n ≤ i → getD (lines n l) i absent ≡ absent
 unfolding lines

@@ -7,7 +7,7 @@ use mathlib.Core.Bool.{Bool, true, false, _&&_, _||_}
 use mathlib.Core.List.{List, [], _∷_, map}
 use lib.Dec.{eqb}
 use lib.ListN.{length, getD}
-use Rattle.profile.specs.Elements.{Entry, padding as pad}
+use Rattle.profile.specs.Elements.{headerSize, countSize, lineSize, lineStart, Entry, padding as pad}
 use Rattle.reader_spec.specs.Table.{tagsOf, entriesOf}
 
 abbrev pub In : {A : Type 0} → A → List A → Type 0
@@ -38,8 +38,8 @@ pub data Owner : Type 0 where
 
 -- byte i of f is the owner's
 pub data Owns (f : List ℕ) (i : ℕ) : Owner → Type 0 where
-  in-header : i < 128 → Owns f i header
-  in-table : 128 ≤ i → i < 132 + 12 * tagsOf f → Owns f i table
+  in-header : i < headerSize → Owns f i header
+  in-table : headerSize ≤ i → i < lineStart (tagsOf f) → Owns f i table
   in-element : (s : Span) → In s (spans f) → s .offset ≤ i → i < end s → Owns f i (element s)
   in-padding : (s : Span) → In s (spans f) → end s ≤ i → i < paddedEnd s → Owns f i (padding s)
 
@@ -80,4 +80,4 @@ pub record Owned (f : List ℕ) : Type 0 where
   -- padding is zero
   pub zeros : (i : ℕ) (s : Span) → Owns f i (padding s) → getD f i 0 ≡ 0
   -- the length is the sum
-  pub total : length f ≡ 128 + 4 + 12 * tagsOf f + elementBytes (once (spans f)) + paddingBytes (once (spans f))
+  pub total : length f ≡ headerSize + countSize + lineSize * tagsOf f + elementBytes (once (spans f)) + paddingBytes (once (spans f))

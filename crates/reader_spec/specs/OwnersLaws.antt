@@ -11,7 +11,7 @@ use lib.Dec.{eqb}
 use lib.ListN.{length, drop, getD, replicate, length-replicate, List·getD-append, getD-replicate}
 use lib.Seq.{getD-drop, getD-append-add}
 use Rattle.buffer.specs.All.{All, none, more}
-use Rattle.profile.specs.Elements.{Element, Slot, slot, padding as pad, padded, body, bodySize, entry, entries, start, file, fileLength}
+use Rattle.profile.specs.Elements.{lineStart, Element, Slot, slot, padding as pad, padded, body, bodySize, entry, entries, start, file, fileLength}
 use Rattle.profile.specs.ElementsLaws.{Fours, map-append, length-file}
 use Rattle.reader_spec.specs.Table.{tagsOf}
 use Rattle.reader_spec.specs.TableLaws.{next-body, tags-file, drop-start, entries-file}
@@ -213,7 +213,7 @@ module _ (h : List ℕ) (es : List Element) (len : length h ≡ 128) (fours : Fo
   unfolding fileLength
   is-length = length-file h es len fours
 
-  tags-start : 132 + 12 * tagsOf (file h es) ≡ start (map slot es)
+  tags-start : lineStart (tagsOf (file h es)) ≡ start (map slot es)
   unfolding start
   tags-start = rw (tags-file h es len fours small)
 
@@ -260,17 +260,17 @@ module _ (h : List ℕ) (es : List Element) (len : length h ≡ 128) (fours : Fo
 
   some-owner : (i : ℕ) → i < length (file h es) → (o : Owner) × Owns (file h es) i o
   some-owner i k =
-      first (decLe (suc i) 128) (decLe (suc i) (132 + 12 * tagsOf (file h es)))
+      first (decLe (suc i) 128) (decLe (suc i) (lineStart (tagsOf (file h es))))
     where
       last : (r : (s : Span) × In s (places (start (map slot es)) (map slot es)) × (s .offset ≤ i) × (i < paddedEnd s))
           → Dec (i < end (r .0)) → (o : Owner) × Owns (file h es) i o
       last r (yes e) = (element (r .0), in-element (r .0) (of-place (r .0) (r .1)) (r .2) e)
       last r (no e) = (padding (r .0), in-padding (r .0) (of-place (r .0) (r .1)) (omega arith) (r .3))
 
-      found : 132 + 12 * tagsOf (file h es) ≤ i → (s : Span) × In s (places (start (map slot es)) (map slot es)) × (s .offset ≤ i) × (i < paddedEnd s)
+      found : lineStart (tagsOf (file h es)) ≤ i → (s : Span) × In s (places (start (map slot es)) (map slot es)) × (s .offset ≤ i) × (i < paddedEnd s)
       found e = place-find (start (map slot es)) (map slot es) start4 i (omega (arith, tags-start)) (omega (arith, is-length))
 
-      first : Dec (i < 128) → Dec (i < 132 + 12 * tagsOf (file h es)) → (o : Owner) × Owns (file h es) i o
+      first : Dec (i < 128) → Dec (i < lineStart (tagsOf (file h es))) → (o : Owner) × Owns (file h es) i o
       first (yes a) d = (header, in-header a)
       first (no a) (yes b) = (table, in-table (omega arith) b)
       first (no a) (no b) = let r = found (omega arith) in last r (decLe (suc i) (end (r .0)))

@@ -5,7 +5,7 @@ use mathlib.Core.List.{List, [], _∷_, _++_}
 use lib.Dec.{eqb}
 use lib.IntN.{ℤ, pos, natAbs}
 use lib.ListN.{length, take, drop, getD}
-use Rattle.numbers.specs.Words.{word32, signed32}
+use Rattle.words.specs.Words.{word32, signed32}
 use Rattle.buffer.specs.Bytes.{same}
 use Rattle.profile.specs.Elements.{Entry}
 use Rattle.profile.specs.Plan.{Plan, Content, gray, rgb, xyb}

@@ -9,8 +9,8 @@ use lib.ListN.{length, take, drop, getD, length-append, length-drop, take-append
 use lib.Seq.{length-take-le, take-at, drop-at, drop-drop}
 use mir.Syntax.{w32}
 use mir.Val.{SFits}
-use Rattle.numbers.specs.Words.{be16, be32, word32, twosComplement32}
-use Rattle.numbers.specs.WordsLaws.{length-be16, length-be32, word32-be32, twosComplement32-pos, number-written}
+use Rattle.words.specs.Words.{be16, be32, word32, twosComplement32}
+use Rattle.words.specs.WordsLaws.{length-be16, length-be32, word32-be32, twosComplement32-pos, number-written}
 use Rattle.buffer.specs.Ascii.{ascii}
 use Rattle.buffer.specs.Bytes.{zeros}
 use Rattle.buffer.specs.All.{All, none, more}

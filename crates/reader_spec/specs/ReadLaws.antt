@@ -4,6 +4,7 @@ use mathlib.Core.Path.{_≡_, refl, ap, sym, _∙_, subst}
 use mathlib.Core.List.{List, [], _∷_, _++_}
 use native.Mathlib.Decide.{decLe, ℕ-discrete}
 use lib.ListN.{length, drop}
+use Rattle.buffer.specs.First.{fails, later}
 use Rattle.profile.specs.Elements.{start, table, entries, fileLength}
 use Rattle.profile.specs.Plan.{Plan, kind, GoodContent, GoodIntent, InRange, Valid}
 use Rattle.profile.specs.declared.Kind.{Kind}
@@ -26,11 +27,11 @@ use Rattle.reader_spec.specs.Read.{check, fromId, fromRange, fromBody, f
 -- ---- what is left to answer where the checks before cs are passed
 
 data From (f : List ℕ) : List RefusalList.Check → RefusalList.Answer → Type 0 where
-  one-fails : {cs : List RefusalList.Check} {c : RefusalList.Check} → RefusalList.First f cs c → From f cs (RefusalList.refused c)
+  one-fails : {cs : List RefusalList.Check} {c : RefusalList.Check} → RefusalList.FirstFailing f cs c → From f cs (RefusalList.refused c)
   all-pass : {cs : List RefusalList.Check} (p : Plan) → Valid p → layout p ≡ f → From f cs (RefusalList.accepted p)
 
 onward : {f : List ℕ} {c : RefusalList.Check} {cs : List RefusalList.Check} {r : RefusalList.Answer} → RefusalList.Passed c f → From f cs r → From f (c ∷ cs) r
-onward h (one-fails s) = one-fails (RefusalList.later h s)
+onward h (one-fails s) = one-fails (later h s)
 onward h (all-pass p v e) = all-pass p v e
 
 -- one step, whose test is the check
@@ -38,7 +39,7 @@ step : {A : Type 0} (f : List ℕ) (d : Dec A) (c : RefusalList.Check) (cs : Lis
     → (A → RefusalList.Passed c f) → (RefusalList.Passed c f → A) → (RefusalList.Passed c f → From f cs r) → From f (c ∷ cs) (check d c r)
 unfolding check
 step f (yes a) c cs r to from k = onward (to a) (k (to a))
-step f (no h) c cs r to from k = one-fails (RefusalList.fails (λ p. h (from p)))
+step f (no h) c cs r to from k = one-fails (fails (λ p. h (from p)))
 
 -- ---- each test is its check
 

@@ -1,9 +1,10 @@
 -- The reader, as the refusal list of 01 says it: the checks in order, each a fact of the file, and what it answers. Assumes nothing.
-use Prim.Native.Nat.{ℕ, _≤_}
+use Prim.Native.Nat.{ℕ, _+_, _≤_}
 use mathlib.Core.Path.{_≡_}
 use mathlib.Core.List.{List, [], _∷_}
 use lib.ListN.{length, take}
-use Rattle.profile.specs.Elements.{table, body, fileLength}
+use Rattle.buffer.specs.First.{First}
+use Rattle.profile.specs.Elements.{headerSize, countSize, table, body, fileLength}
 use Rattle.profile.specs.Plan.{Plan, kind, GoodIntent, Valid, Wide}
 use Rattle.profile.specs.declared.Kind.{Kind}
 use Rattle.profile.specs.Layout.{header, elements, slots, profileId, layout}
@@ -13,10 +14,10 @@ use Rattle.reader_spec.specs.Table.{varyingOf, tableOf, bodyOf}
 
 -- the header is that of this kind, but for size, intent and id, which may be any
 unfoldable pub Header : Kind → List ℕ → Type 0
-Header k f = take 128 f ≡ header k (varyingOf f)
+Header k f = take headerSize f ≡ header k (varyingOf f)
 
 pub record Ok21 (f : List ℕ) : Type 0 where
-  pub long : 132 ≤ length f
+  pub long : headerSize + countSize ≤ length f
 
 pub record Ok22 (f : List ℕ) : Type 0 where
   pub size : varyingOf f .size ≡ length f
@@ -88,10 +89,9 @@ Passed c28 = Ok28
 abbrev pub checks : List Check
 checks = c21 ∷ c22 ∷ c23 ∷ c24 ∷ c25 ∷ c26 ∷ c27 ∷ c28 ∷ []
 
--- c is the first of the checks cs that f does not pass
-pub data First (f : List ℕ) : List Check → Check → Type 0 where
-  fails : {c : Check} {cs : List Check} → ¬ (Passed c f) → First f (c ∷ cs) c
-  later : {c d : Check} {cs : List Check} → Passed c f → First f cs d → First f (c ∷ cs) d
+-- the first of the checks that f does not pass
+abbrev pub FirstFailing : List ℕ → List Check → Check → Type 0
+FirstFailing f = First (λ (c : Check). Passed c f)
 
 -- ---- the answer
 
@@ -101,7 +101,7 @@ pub data Answer : Type 0 where
 
 -- the reader's answer to f: the first check that it does not pass, or the plan that lays out to it
 pub data Answers (f : List ℕ) : Answer → Type 0 where
-  refuses : {c : Check} → First f checks c → Answers f (refused c)
+  refuses : {c : Check} → FirstFailing f checks c → Answers f (refused c)
   accepts : (p : Plan) → Valid p → layout p ≡ f → Answers f (accepted p)
 
 -- 01's number of an answer, and 0 where the file is accepted

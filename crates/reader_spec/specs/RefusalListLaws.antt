@@ -10,7 +10,8 @@ use mir.Syntax.{w32}
 use mir.Val.{SFits}
 use Rattle.buffer.specs.All.{All, none, more}
 use Rattle.md5.specs.Md5.{md5}
-use Rattle.profile.specs.Elements.{start, table, body, file, fileLength}
+use Rattle.buffer.specs.FirstLaws.{first-unique, first-not-all}
+use Rattle.profile.specs.Elements.{lineStart, start, table, body, file, fileLength}
 use Rattle.profile.specs.ElementsLaws.{length-table, length-body}
 use Rattle.profile.specs.Plan.{Plan, kind, Good, Valid, Wide}
 use Rattle.profile.specs.declared.Kind.{Kind}
@@ -21,18 +22,6 @@ use Rattle.reader_spec.specs.Table.{varyingOf, tagsOf, tableOf, bodyOf}
 use Rattle.reader_spec.specs.PlanIn.{planIn}
 use Rattle.reader_spec.specs.FileLaws.{varying, fours, header-128, length-slots, table-withId, body-withId, varying-withId, plan-in-withId, layout-injective, id-layout, size-layout, valid-wide}
 use Rattle.reader_spec.specs.RefusalList
-
--- ---- the first failing check is one
-
-first-unique : {f : List ℕ} {cs : List RefusalList.Check} {c d : RefusalList.Check} → RefusalList.First f cs c → RefusalList.First f cs d → c ≡ d
-first-unique (RefusalList.fails h) (RefusalList.fails k) = refl
-first-unique (RefusalList.fails h) (RefusalList.later k s) = absurd (h k)
-first-unique (RefusalList.later h s) (RefusalList.fails k) = absurd (k h)
-first-unique (RefusalList.later h s) (RefusalList.later k t) = first-unique s t
-
-first-not-all : {f : List ℕ} {cs : List RefusalList.Check} {c : RefusalList.Check} → RefusalList.First f cs c → All (λ (d : RefusalList.Check). RefusalList.Passed d f) cs → ⊥
-first-not-all (RefusalList.fails h) (more k p) = h k
-first-not-all (RefusalList.later h s) (more k p) = first-not-all s p
 
 -- ---- a plan that has a file's regions has the file
 
@@ -49,7 +38,7 @@ module _ (f : List ℕ) (ok21 : RefusalList.Ok21 f) where
   pub regions : drop 128 f ≡ tableOf f ++ bodyOf f
   unfolding bodyOf tableOf
   regions =
-      let e : 132 + 12 * tagsOf f ≡ 128 + (4 + 12 * tagsOf f) = omega arith in
+      let e : lineStart (tagsOf f) ≡ 128 + (4 + 12 * tagsOf f) = omega arith in
       rw (e, ← drop-drop (4 + 12 * tagsOf f) 128 f, take-append-drop)
 
   module _ (ok22 : RefusalList.Ok22 f) (p : Plan) (w : Wide p) (h : RefusalList.Has p f) where
@@ -126,7 +115,7 @@ passes p v =
 
 -- ---- there is one answer at most
 
-not-both : {f : List ℕ} {c : RefusalList.Check} (p : Plan) → Valid p → layout p ≡ f → RefusalList.First f RefusalList.checks c → ⊥
+not-both : {f : List ℕ} {c : RefusalList.Check} (p : Plan) → Valid p → layout p ≡ f → RefusalList.FirstFailing f RefusalList.checks c → ⊥
 not-both p v e s = first-not-all s (subst AllPassed e (passes p v))
 
 pub answer-unique : (f : List ℕ) (a b : RefusalList.Answer) → RefusalList.Answers f a → RefusalList.Answers f b → a ≡ b

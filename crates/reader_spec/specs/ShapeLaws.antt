@@ -5,7 +5,7 @@ use mathlib.Core.List.{List, _++_}
 use native.Mathlib.Omega.{arith}
 use lib.ListN.{length, take, drop, take-append-drop}
 use lib.Seq.{take-at}
-use Rattle.profile.specs.Elements.{tagCount, table, entries, start, fileLength}
+use Rattle.profile.specs.Elements.{lineStart, tagCount, table, entries, start, fileLength}
 use Rattle.profile.specs.ElementsLaws.{length-table}
 use Rattle.profile.specs.Plan.{maxLetters}
 use Rattle.profile.specs.PlanLaws.{fours, at-most}
@@ -38,6 +38,6 @@ module _ (f : List ℕ) (long : 132 ≤ length f) (s : Shape) (short : s .letter
   pub entries-if : tableOf f ≡ table (slotsOf s) → entriesOf f ≡ entries (start (slotsOf s)) (slotsOf s)
   entries-if e = entries-are f (slotsOf s) (bodyOf f) (from-128 e) (fours s) small
 
-  pub start-if : tableOf f ≡ table (slotsOf s) → 132 + 12 * tagsOf f ≡ start (slotsOf s)
+  pub start-if : tableOf f ≡ table (slotsOf s) → lineStart (tagsOf f) ≡ start (slotsOf s)
   unfolding start
-  start-if e = ap (λ (n : ℕ). 132 + 12 * n) (tags-are f (slotsOf s) (bodyOf f) (from-128 e) (fours s) small)
+  start-if e = ap (λ (n : ℕ). lineStart n) (tags-are f (slotsOf s) (bodyOf f) (from-128 e) (fours s) small)

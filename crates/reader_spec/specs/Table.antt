@@ -2,33 +2,33 @@
 use Prim.Native.Nat.{ℕ, zero, suc, _+_, _*_}
 use mathlib.Core.List.{List, [], _∷_}
 use lib.ListN.{take, drop, getD}
-use Rattle.numbers.specs.Words.{word32}
-use Rattle.profile.specs.Elements.{Entry}
-use Rattle.profile.specs.Layout.{Varying}
+use Rattle.words.specs.Words.{word32}
+use Rattle.profile.specs.Elements.{headerSize, countSize, lineSize, lineStart, Entry}
+use Rattle.profile.specs.Layout.{Varying, intentAt, idAt, idSize}
 
 -- what the header says where its kind does not fix it
 unfoldable pub varyingOf : List ℕ → Varying
-varyingOf f = record { size = word32 f; intent = word32 (drop 64 f); id = take 16 (drop 84 f) }
+varyingOf f = record { size = word32 f; intent = word32 (drop intentAt f); id = take idSize (drop idAt f) }
 
 -- the number of tags
 unfoldable pub tagsOf : List ℕ → ℕ
-tagsOf f = word32 (drop 128 f)
+tagsOf f = word32 (drop headerSize f)
 
--- the tag table: that number, and 12 bytes for each tag
+-- the tag table: that number, and a line for each tag
 unfoldable pub tableOf : List ℕ → List ℕ
-tableOf f = take (4 + 12 * tagsOf f) (drop 128 f)
+tableOf f = take (countSize + lineSize * tagsOf f) (drop headerSize f)
 
 -- elements and padding: what follows the tag table
 unfoldable pub bodyOf : List ℕ → List ℕ
-bodyOf f = drop (132 + 12 * tagsOf f) f
+bodyOf f = drop (lineStart (tagsOf f)) f
 
 -- the first n lines that a list of bytes holds
 unfoldable pub lines : ℕ → List ℕ → List Entry
 lines zero l = []
-lines (suc n) l = record { signature = take 4 l; offset = word32 (drop 4 l); size = word32 (drop 8 l) } ∷ lines n (drop 12 l)
+lines (suc n) l = record { signature = take 4 l; offset = word32 (drop 4 l); size = word32 (drop 8 l) } ∷ lines n (drop lineSize l)
 
 unfoldable pub entriesOf : List ℕ → List Entry
-entriesOf f = lines (tagsOf f) (drop 132 f)
+entriesOf f = lines (tagsOf f) (drop (headerSize + countSize) f)
 
 -- a line that names no bytes
 abbrev pub absent : Entry

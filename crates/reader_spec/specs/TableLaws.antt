@@ -5,8 +5,8 @@ use mathlib.Core.List.{List, [], _∷_, _++_, map, append-assoc}
 use native.Mathlib.Omega.{arith}
 use lib.ListN.{length, take, drop, getD, replicate, length-append}
 use lib.Seq.{take-at, drop-at, drop-drop, take-append-seam}
-use Rattle.numbers.specs.Words.{be32, word32}
-use Rattle.numbers.specs.WordsLaws.{length-be32, word32-be32}
+use Rattle.words.specs.Words.{be32, word32}
+use Rattle.words.specs.WordsLaws.{length-be32, word32-be32}
 use Rattle.buffer.specs.All.{All, none, more}
 use Rattle.buffer.specs.AllLaws.{All-append}
 use Rattle.profile.specs.Elements
@@ -18,8 +18,8 @@ use Rattle.reader_spec.specs.Table
 -- a line whose signature has 4 bytes and whose numbers fit 32 bits
 pub record Fits (e : Elements.Entry) : Type 0 where
   pub four : Four (e .signature)
-  pub offset32 : e .offset < 2 ^ 32
-  pub size32 : e .size < 2 ^ 32
+  offset32 : e .offset < 2 ^ 32
+  size32 : e .size < 2 ^ 32
 
 module _ (e : Elements.Entry) (r : List ℕ) (h : Fits e) where
   line-signature : take 4 (Elements.entryBytes e ++ r) ≡ e .signature
@@ -98,7 +98,7 @@ module _ (f : List ℕ) (ss : List Elements.Slot) (r : List ℕ) (here : drop 12
   pub rest-is : drop (Elements.start ss) f ≡ r
   unfolding Elements.start
   rest-is =
-      let e : 132 + 12 * Elements.tagCount ss ≡ 128 + (4 + 12 * Elements.tagCount ss) = omega arith in
+      let e : Elements.lineStart (Elements.tagCount ss) ≡ 128 + (4 + 12 * Elements.tagCount ss) = omega arith in
       rw (e, ← drop-drop (4 + 12 * Elements.tagCount ss) 128 f, here) (drop-at (Elements.table ss) r (4 + 12 * Elements.tagCount ss) (length-table ss fours))
 
 -- ---- the element that each line names, and what follows it

@@ -1,4 +1,5 @@
 -- By the case of the kind.
+use mathlib.Core.Path.{_∙_}
 use Rattle.reader_spec.specs.PlanIn.{shapeFrom}
 use Rattle.reader_spec.specs.LinesLaws.{length-entries}
 use borrow.Author.Needs.{needs}
@@ -7,20 +8,16 @@ use Rattle.fields.proofs.shape_in.Tie as tie
 
 returns : tie.Need-returns
 unfolding shapeFrom
-returns c =
-    rw (c .before .before .before .enum-told .given .1, c .before .letters-for .ensures, c .before .before .size-at .ensures, c .size-at2 .ensures)
+returns c = c .shape-by-sizes .ensures ∙ rw (c .before .enum-told .given .1)
 
 returns-2 : tie.Need-returns-2
 unfolding shapeFrom
 returns-2 c =
-    let letters = c .before .before in
-    let tags = letters .before .before in
-    rw (
+    let tags = c .before .before in
+    c .shape-by-sizes2 .ensures
+    ∙ rw (
       tags .before .enum-told2 .given .1,
       length-entries (tags .before .before .before .before .args .file .now),
-      letters .letters-for2 .ensures,
-      letters .before .size-at3 .ensures,
-      c .size-at4 .ensures,
       c .before .red-line .ensures .0,
       tags .tag-count .ensures,
     )
@@ -35,11 +32,7 @@ shape-in-spec =
     (tie.spec
     (λ c. search needs)
     (λ c κs. search needs)
-    (λ c κs. search needs)
-    (λ c κs. search needs)
     (λ c. search needs)
-    (λ c κs. search needs)
-    (λ c κs. search needs)
     (λ c κs. search needs)
     (λ c κs. search needs)
     (λ c. search needs)

@@ -13,7 +13,7 @@ use Rattle.reader_spec.specs.PlanInLaws.{shape-kind}
 use Rattle.reader_spec.specs.DecideLaws.{decided-if, decided-not}
 use Rattle.reader_spec.specs.Steps.{Headed, Tabled}
 use Rattle.reader_spec.specs.StepsLaws.{read-21, read-22}
-use Rattle.reader.specs.Reading.{reading}
+use Rattle.reading.specs.Reading.{reading}
 use Rattle.reader.proofs.HeaderTests.{Tested, headed, answer-23, answer-24, answer-table}
 use Rattle.reader.proofs.HeaderTests.{refuse-25, go-on}
 use Rattle.reader.proofs.read.Statement.{statement}

@@ -13,7 +13,7 @@ use Rattle.reader_spec.specs.PlanIn.{planIn}
 use Rattle.reader_spec.specs.Read.{fromBody}
 use Rattle.reader_spec.specs.Steps.{Tabled}
 use Rattle.reader_spec.specs.StepsLaws.{accepted-plan}
-use Rattle.reader.specs.Reading.{textArray, acceptedWith, reading}
+use Rattle.reading.specs.Reading.{textArray, acceptedWith, reading}
 use Rattle.reader.proofs.Answered.{refused-by}
 use Rattle.reader.proofs.read_elements.Statement.{statement}
 use Rattle.reader.proofs.read_elements.Tie as tie
