@@ -1,10 +1,11 @@
--- Demand 2 of the writer: with enough output and a curve other than PQ and HLG, writing succeeds exactly if `validate_icc_matrix` does, a
--- gamma's reciprocal fits, and XYB is Perceptual; and where `validate_icc_matrix` refuses, the writer refuses by a number that its answer stands
--- for. The floats of the encoding are binary32 values, as those of the code are. Assumes nothing.
+-- Demand 2 of the writer: with a curve other than PQ and HLG, writing succeeds exactly if `validate_icc_matrix` does, a gamma's reciprocal fits, XYB is
+-- Perceptual and the output is not shorter than the profile; 1,200 bytes are enough. And where `validate_icc_matrix` refuses, the writer refuses by a
+-- number that its answer stands for. Assumes nothing.
 use Prim.Native.Nat.{ℕ, _≤_}
 use mathlib.Core.Path.{_≡_, refl, ap, _∙_}
 use mathlib.Core.Logic.{_↔_}
 use mathlib.Core.Bool.{true}
+use native.Mathlib.Nat.{le-trans}
 use lib.ListN.{length}
 use lib.IntN.{ℤ}
 use lib.Ieee.{Float}
@@ -19,13 +20,15 @@ use Rattle.color_encoding.specs.declared.JxlTransferFunction.the-variants as F
 use Rattle.color_encoding.specs.declared.JxlColorEncoding.{JxlColorEncoding}
 use Rattle.color_encoding.specs.declared.JxlColorEncoding.the-variants.{RgbColorSpace, GrayscaleColorSpace, XYB}
 use Rattle.text.specs.Held.{HeldEncoding}
+use Rattle.profile.specs.Plan.{Plan}
 use Rattle.profile.specs.Layout.{layout}
 use Rattle.encoding_plan.specs.PlanOf.{planOf}
 use Rattle.validate.specs.Validate.{inRange, standsFor, validation, validateIccMatrix}
 use Rattle.validate.specs.declared.Validation.the-variants.{Valid}
-use Rattle.writer.specs.Writer.{answer}
+use Rattle.writer.specs.Writer.{answer, maxWritten}
 use Rattle.writer.specs.declared.Profile.the-variants.{Written, Refused}
-use Rattle.demands.specs.Demand2Laws.{valid-if, named, has-plan, written, gray-planned, gray-plan-if, gray-refused, rgb-planned, rgb-plan-if, rgb-refused, perceptual-if, xyb-valid, xyb-plan-if, xyb-refused}
+use Rattle.writer_laws.specs.WrittenLength.{written-length}
+use Rattle.demands.specs.Demand2Laws.{valid-if, named, has-plan, has-room, written, gray-planned, gray-plan-if, gray-refused, rgb-planned, rgb-plan-if, rgb-refused, perceptual-if, xyb-valid, xyb-plan-if, xyb-refused}
 
 -- ---- the conditions
 
@@ -58,6 +61,10 @@ pub record Acceptable (e : JxlColorEncoding) : Type 0 where
   pub gamma : GammaFits e
   pub intent : PerceptualXyb e
 
+-- an output of n bytes is not shorter than the profile
+abbrev pub Enough : JxlColorEncoding → ℕ → Type 0
+Enough e n = (p : Plan) → planOf e ≡ is p → length (layout p) ≤ n
+
 -- what `maybe_create_profile` answers for an output of n bytes is a length
 pub record Succeeds (e : JxlColorEncoding) (n : ℕ) : Type 0 where
   pub size : ℕ
@@ -71,8 +78,8 @@ pub record RefusesAsNamed (e : JxlColorEncoding) (n : ℕ) : Type 0 where
 
 -- ---- the theorems
 
-pub succeeds-exactly-if : (e : JxlColorEncoding) → HeldEncoding e → NotHdr e → (n : ℕ) → 1200 ≤ n → Succeeds e n ↔ Acceptable e
-succeeds-exactly-if e held h n enough = (λ s. acceptable e (has-plan e n (s .answers)), λ a. succeeds (plan e h a))
+pub succeeds-exactly-if : (e : JxlColorEncoding) → NotHdr e → (n : ℕ) → Succeeds e n ↔ (Acceptable e × Enough e n)
+succeeds-exactly-if e h n = (λ s. (acceptable e (has-plan e n (s .answers)), has-room e n (s .answers)), λ a. succeeds (plan e h (a .0)) (a .1))
   where
     acceptable : (e : JxlColorEncoding) → Passes (planOf e) → Acceptable e
     acceptable (GrayscaleColorSpace w t i) p = let a = gray-planned w t i (p .given) in record { matrix = ap validation (a .0); gamma = a .1; intent = tt }
@@ -84,8 +91,12 @@ succeeds-exactly-if e held h n enough = (λ s. acceptable e (has-plan e n (s .an
     plan (RgbColorSpace w q t i) h a = rgb-plan-if w q t i h (a .gamma) (valid-if _ (a .matrix))
     plan (XYB i) h a = xyb-plan-if i (a .intent)
 
-    succeeds : Passes (planOf e) → Succeeds e n
-    succeeds p = record { size = length (layout (p .value)); answers = written e held n enough (p .given) }
+    succeeds : Passes (planOf e) → Enough e n → Succeeds e n
+    succeeds p room = record { size = length (layout (p .value)); answers = written e n (p .given) (room (p .value) (p .given)) }
+
+-- the floats of the encoding are binary32 values, as those of the code are
+pub enough-output : (e : JxlColorEncoding) → HeldEncoding e → (n : ℕ) → maxWritten ≤ n → Enough e n
+enough-output e held n enough p h = le-trans (written-length e held h .1) enough
 
 pub refuses-as-named : (e : JxlColorEncoding) → NotHdr e → (validateIccMatrix e ≡ Valid → ⊥) → (n : ℕ) → RefusesAsNamed e n
 refuses-as-named e h invalid n = go (inRange e) refl

@@ -4,8 +4,8 @@ use Prim.Native.Nat.{ℕ, _≤_}
 use mathlib.Core.Path.{_≡_, refl, sym, ap, _∙_}
 use mathlib.Core.Bool.{Bool, true, false, cond}
 use mathlib.Core.List.{List, [], _∷_}
-use native.Mathlib.Nat.{le-trans}
 use native.Mathlib.Omega.{arith}
+use lib.Dec.{leb, leb→le}
 use lib.ListN.{length}
 use lib.IntN.{ℤ}
 use lib.Ieee.{Float, ofBits, lt, le, eq}
@@ -13,7 +13,7 @@ use borrow.Author.Tests.{le-leb}
 use Rattle.buffer.specs.All.{All, none, more}
 use Rattle.buffer.specs.BoolLaws as Bools
 use Rattle.buffer.specs.Checked.{Checked, is, refused, then, each}
-use Rattle.buffer.specs.CheckedLaws.{Passes, never, both}
+use Rattle.buffer.specs.CheckedLaws.{Passes, never, both, Refusing, refusing, by-then, by-cond}
 use Rattle.floats.specs.Binary32.{_⊘_, one}
 use Rattle.numbers.specs.Fixed.{s15Fixed16, fixedOr}
 use Rattle.numbers.specs.FixedLaws.{number-if}
@@ -31,12 +31,11 @@ use Rattle.color_encoding.specs.declared.JxlTransferFunction.{JxlTransferFuncti
 use Rattle.color_encoding.specs.declared.JxlTransferFunction.the-variants as F
 use Rattle.color_encoding.specs.declared.JxlColorEncoding.{JxlColorEncoding}
 use Rattle.color_encoding.specs.declared.JxlColorEncoding.the-variants.{RgbColorSpace, GrayscaleColorSpace, XYB}
-use Rattle.colorimetry.specs.GrayWhite.{cieXyzFromWhiteCieXy}
-use Rattle.colorimetry.specs.WhiteLaws.{gray-white}
+use Rattle.white_point.specs.GrayWhite.{cieXyzFromWhiteCieXy}
+use Rattle.white_point.specs.GrayWhiteLaws.{gray-white}
 use Rattle.colorimetry.specs.Adapt.{chadMatrix}
 use Rattle.colorimetry.specs.Primaries.{createIccRgbMatrix}
-use Rattle.colorimetry.specs.RefusalLaws.{Refusing, refusing, by-then, by-cond, by-white, by-chad, by-rgb-matrix}
-use Rattle.text.specs.Held.{HeldEncoding}
+use Rattle.colorimetry.specs.RefusalLaws.{by-white, by-chad, by-rgb-matrix}
 use Rattle.profile.specs.Plan.{Plan}
 use Rattle.profile.specs.Layout.{layout}
 use Rattle.profile.specs.declared.Curve.{Curve}
@@ -44,13 +43,12 @@ use Rattle.profile.specs.declared.Curve.the-variants.{Gamma}
 use Rattle.encoding_plan.specs.Answers.{reciprocalRefusal}
 use Rattle.encoding_plan.specs.PlanOf.{supported, curveOf, grayNumbers, chadNumbers, columnNumbers, planOf}
 use Rattle.encoding_plan.specs.PlanOfLaws.{gray-plan, rgb-plan}
-use Rattle.encoding_plan.specs.declared.curve.SupportedCurve.{SupportedCurve}
-use Rattle.encoding_plan.specs.declared.curve.SupportedCurve.the-variants as Supported
+use Rattle.encoding_curve.specs.declared.SupportedCurve.{SupportedCurve}
+use Rattle.encoding_curve.specs.declared.SupportedCurve.the-variants as Supported
 use Rattle.validate.specs.Validate.{isS15Fixed16, allS15Fixed16, inRangeOr, whiteInRange, matrixInRange, matricesInRange, inRange, standsFor, errorAt, validation, validateIccMatrix}
 use Rattle.validate.specs.declared.Validation.the-variants.{Valid, InvalidWhitePointY, InvalidWhitePoint, MatrixInversionFailed, ValueOutOfRange}
-use Rattle.writer.specs.Writer.{answer}
+use Rattle.writer.specs.Writer.{answer, tooShort}
 use Rattle.writer.specs.declared.Profile.the-variants.{Written, Refused}
-use Rattle.writer_laws.specs.WrittenLength.{written-length}
 use Rattle.demands.specs.FixedRangeLaws.{isNumber, fixed-range}
 
 -- ---- whether a check passed, without what it gave
@@ -308,20 +306,25 @@ module _ (i : RenderingIntent) where
   unfolding inRange
   xyb-refused e = absurd (never (sym e))
 
--- ---- with 1,200 bytes of output a plan is written, and what is written has a plan
+-- ---- a plan is written exactly if the output has room for it
 
-module _ (e : JxlColorEncoding) where
-  pub written : HeldEncoding e → (n : ℕ) → 1200 ≤ n → {p : Plan} → planOf e ≡ is p → answer (planOf e) n ≡ Written (length (layout p))
-  written held n enough {p} h =
-      let room : length (layout p) ≤ n = le-trans (written-length e held h .1) enough in
-      ap (λ c. answer c n) h ∙ simp (le-leb _ _ room)
+module _ (e : JxlColorEncoding) (n : ℕ) where
+  pub written : {p : Plan} → planOf e ≡ is p → length (layout p) ≤ n → answer (planOf e) n ≡ Written (length (layout p))
+  written {p} h room = ap (λ c. answer c n) h ∙ simp (le-leb _ _ room)
 
-  pub has-plan : (n : ℕ) {size : ℕ} → answer (planOf e) n ≡ Written size → Passes (planOf e)
-  has-plan n {size} w = go (planOf e) refl
+  not-written : {k size : ℕ} → Refused k ≡ Written size → ⊥
+  not-written e = let z : _≡_ {A = ℕ} 0 1 = cc in omega arith
+
+  pub has-plan : {size : ℕ} → answer (planOf e) n ≡ Written size → Passes (planOf e)
+  has-plan w = go (planOf e) refl
     where
-      not-written : {k : ℕ} → Refused k ≡ Written size → ⊥
-      not-written e = let z : _≡_ {A = ℕ} 0 1 = cc in omega arith
-
       go : (c : Checked Plan) → planOf e ≡ c → Passes (planOf e)
       go (is p) h = record { value = p; given = h }
       go (refused k) h = absurd (not-written (sym (ap (λ c. answer c n) h) ∙ w))
+
+  pub has-room : {size : ℕ} → answer (planOf e) n ≡ Written size → (p : Plan) → planOf e ≡ is p → length (layout p) ≤ n
+  has-room {size} w p h = go (leb (length (layout p)) n) refl (sym (ap (λ c. answer c n) h) ∙ w)
+    where
+      go : (b : Bool) → leb (length (layout p)) n ≡ b → cond b (Written (length (layout p))) (Refused tooShort) ≡ Written size → length (layout p) ≤ n
+      go true t g = leb→le (length (layout p)) n (Bools.holds t)
+      go false t g = absurd (not-written g)

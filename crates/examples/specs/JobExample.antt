@@ -5,10 +5,10 @@ use mathlib.Core.List.{List, [], _∷_, _++_}
 use lib.Ieee.{size}
 use Rattle.buffer.specs.Ascii.{ascii}
 use Rattle.buffer.specs.Checked.{is, refused}
-use Rattle.numbers.specs.Words.{word32}
+use Rattle.words.specs.Words.{word32}
 use Rattle.color_encoding.specs.declared.RenderingIntent.the-variants.{Perceptual, Relative}
 use Rattle.color_encoding.specs.declared.JxlColorEncoding.the-variants.{XYB}
-use Rattle.decimal.specs.Decimal.{digitsUpTo, digits}
+use Rattle.digits.specs.Digits.{digitsUpTo, digits}
 use Rattle.buffer.specs.Bytes.{zeros}
 use Rattle.profile.specs.TagTypes.{join}
 use Rattle.profile.specs.Elements.{fileLength, start, bodySize, tagCount, padding}
@@ -21,7 +21,7 @@ use Rattle.job.specs.Job.{entriesFrom, cut, job}
 use Rattle.job.specs.declared.JobEntry.{JobEntry}
 use Rattle.entry_output.specs.EntryOutput.{enough, firstLine, entryLine}
 use Rattle.job_output.specs.JobOutput.{outputOf, listing}
-use Rattle.examples.specs.Examples.{srgb, srgbPlan, perceptual-plan}
+use Rattle.examples.specs.SheetsLaws.{srgb, srgbPlan, perceptual-plan}
 
 -- no gray entry; the sRGB entry: white, primaries, curve and intent; one XYB entry, Relative
 abbrev job44 : List ℕ

@@ -1,2 +1,3 @@
-pub mod Examples
+pub mod SheetsLaws
+pub mod Sheets
 pub mod JobExample

@@ -1,1 +1,1 @@
-// No code: specs/Examples.antt holds the worked examples of 01, evaluated on the definitions.
+// No code: specs/Sheets.antt holds the worked examples of 01, evaluated on the definitions.

@@ -1,4 +1,4 @@
--- The examples of 01 that are to be proved ("Sheets to try", marked with a star), evaluated on the definitions. Assumes nothing.
+-- The cases of the joint table, one by one, evaluated on the definitions. Assumes nothing.
 use Prim.Native.Nat.{ℕ}
 use mathlib.Core.Path.{_≡_, refl, ap, _∙_}
 use mathlib.Core.List.{List, [], _∷_}
@@ -17,15 +17,15 @@ use Rattle.color_encoding.specs.declared.JxlWhitePoint.the-variants as W
 use Rattle.color_encoding.specs.declared.JxlPrimaries.the-variants as P
 use Rattle.color_encoding.specs.declared.JxlTransferFunction.the-variants as F
 use Rattle.color_encoding.specs.declared.JxlColorEncoding.the-variants.{RgbColorSpace, GrayscaleColorSpace, XYB}
-use Rattle.decimal.specs.Decimal.{digits, lastDigits}
+use Rattle.digits.specs.Digits.{digits, lastDigits}
 use Rattle.decimal.specs.Seven.{sevenDecimals}
 use Rattle.floats.specs.Abs.{abs}
 use Rattle.linalg.specs.Linalg.{dot, applied, product}
-use Rattle.linalg.specs.Inverse.{minor, cofactor, cofactors, determinant, adjugate, singular, inverse}
+use Rattle.matrix_inverse.specs.Inverse.{minor, cofactor, cofactors, determinant, adjugate, singular, inverse}
 use Rattle.numbers.specs.Narrow.{narrow}
 use Rattle.color_encoding.specs.Range.{inRange}
-use Rattle.colorimetry.specs.White.{whiteXyz, finite, finiteXyz}
-use Rattle.colorimetry.specs.GrayWhite.{cieXyzFromWhiteCieXy}
+use Rattle.white_point.specs.White.{whiteXyz, finite, finiteXyz}
+use Rattle.white_point.specs.GrayWhite.{cieXyzFromWhiteCieXy}
 use Rattle.colorimetry.specs.Adapt.{hasZero, allFinite, lms, gains, adaptable, adaptationMatrix, adaptToXyzD50, narrowed, chadMatrix}
 use Rattle.colorimetry.specs.Primaries.{primariesMatrix, scaledPrimaries, primariesToXyz, primariesToXyzD50, createIccRgbMatrix}
 use Rattle.text.specs.Description.{whiteName, primariesName, transferName, rgbText, grayText, rgbDescription, description}
