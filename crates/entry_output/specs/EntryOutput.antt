@@ -4,7 +4,7 @@ use mathlib.Core.List.{List, [], _∷_, _++_}
 use lib.ListN.{length}
 use Rattle.buffer.specs.Ascii.{ascii}
 use Rattle.buffer.specs.Checked.{Checked, is, refused}
-use Rattle.decimal.specs.Decimal.{digits}
+use Rattle.digits.specs.Digits.{digits}
 use Rattle.profile.specs.TagTypes.{join}
 use Rattle.profile.specs.Plan.{Plan}
 use Rattle.profile.specs.Layout.{layout}

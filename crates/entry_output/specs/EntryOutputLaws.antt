@@ -2,25 +2,24 @@
 use Prim.Native.Nat.{ℕ, _+_, _-_, _≤_}
 use mathlib.Core.Path.{_≡_, refl, sym, ap, _∙_}
 use mathlib.Core.List.{List, [], _∷_, _++_, append-assoc, append-nil}
-use native.Mathlib.Nat.{zero-add}
 use native.Mathlib.Omega.{arith}
 use borrow.Author.Tests.{le-leb}
 use lib.ListN.{length, take, drop, replicate, length-append, length-replicate, length-drop, take-append-drop}
-use lib.Seq.{take-at, take-all, drop-length, drop-drop}
+use lib.Seq.{take-at, take-all, drop-length}
 use borrow.Rule.Slice.PartMut.{midOf, putMid}
 use Rattle.buffer.specs.Buffer.{put}
 use Rattle.buffer.specs.Checked.{Checked, is, refused}
 use Rattle.buffer.specs.Puts.{PutsText}
-use Rattle.buffer.specs.BufferLaws.{length-put, put-nothing}
+use Rattle.buffer.specs.BufferLaws.{length-put, put-nothing, put-behind}
 use Rattle.buffer.specs.PutsLaws.{in-front}
 use Rattle.color_encoding.specs.declared.JxlColorEncoding.{JxlColorEncoding}
-use Rattle.decimal.specs.DecimalLaws.{length-digits}
+use Rattle.digits.specs.DigitsLaws.{length-digits}
 use Rattle.text.specs.Held.{HeldEncoding}
 use Rattle.profile.specs.TagTypes.{join}
 use Rattle.profile.specs.Plan.{Plan}
 use Rattle.profile.specs.Layout.{layout}
 use Rattle.encoding_plan.specs.PlanOf.{planOf}
-use Rattle.writer.specs.Writer.{answer, output}
+use Rattle.writer.specs.Writer.{answer, output, maxWritten}
 use Rattle.writer.specs.declared.Profile.{Profile}
 use Rattle.writer.specs.declared.Profile.the-variants as P
 use Rattle.writer_laws.specs.WrittenLength.{written-length}
@@ -34,10 +33,10 @@ use Rattle.entry_output.specs.declared.Line.{Line}
 
 -- ---- 1,200 bytes are enough
 
-pub profile-most : (e : JxlColorEncoding) → HeldEncoding e → length (profileBytes (planOf e)) ≤ 1200
+pub profile-most : (e : JxlColorEncoding) → HeldEncoding e → length (profileBytes (planOf e)) ≤ maxWritten
 profile-most e h = go (planOf e) refl
   where
-    go : (c : Checked Plan) → planOf e ≡ c → length (profileBytes c) ≤ 1200
+    go : (c : Checked Plan) → planOf e ≡ c → length (profileBytes c) ≤ maxWritten
     go (is p) q = written-length e h q .1
     go (refused k) q = omega arith
 
@@ -46,7 +45,7 @@ room-answer : (c : Checked Plan) (n : ℕ) → length (profileBytes c) ≤ n →
 room-answer (is p) n h = rw (le-leb (length (layout p)) n h)
 room-answer (refused k) n h = refl
 
-pub enough-answer : (e : JxlColorEncoding) → HeldEncoding e → (n : ℕ) → 1200 ≤ n → answer (planOf e) n ≡ enough (planOf e)
+pub enough-answer : (e : JxlColorEncoding) → HeldEncoding e → (n : ℕ) → maxWritten ≤ n → answer (planOf e) n ≡ enough (planOf e)
 enough-answer e h n g = room-answer (planOf e) n (omega (arith, profile-most e h))
 
 pub small-answer : (e : JxlColorEncoding) → HeldEncoding e → Small (enough (planOf e))
@@ -119,10 +118,6 @@ module _ (l : List ℕ) (at : ℕ) where
       let past : drop (length l - at) (drop at l) ≡ [] = ap (λ (k : ℕ). drop k (drop at l)) (sym (length-drop at l)) ∙ drop-length (drop at l) in
       ap (λ (r : List ℕ). take at l ++ (y ++ r)) past ∙ ap (λ (r : List ℕ). take at l ++ r) (append-nil y)
 
-  put-behind : (q : List ℕ) → take at l ++ put (drop at l) 0 q ≡ put l at q
-  unfolding put
-  put-behind q = rw (zero-add (length q), drop-drop (length q) at l)
-
   pub lent-answer : (c : Checked Plan) → at + length (profileBytes c) ≤ length l → answer c (length lent) ≡ enough c
   lent-answer c h = room-answer c (length lent) (rw (lent-is (omega arith), length-drop) (omega arith))
 
@@ -130,6 +125,6 @@ module _ (l : List ℕ) (at : ℕ) where
   lent-output (is p) h =
       let fits : length (layout p) ≤ length lent = rw (lent-is (omega arith), length-drop) (omega arith) in
       rw (le-leb (length (layout p)) (length lent) fits)
-      (back (put lent 0 (layout p)) ∙ ap (λ (x : List ℕ). take at l ++ put x 0 (layout p)) (lent-is (omega arith)) ∙ put-behind (layout p))
+      (back (put lent 0 (layout p)) ∙ ap (λ (x : List ℕ). take at l ++ put x 0 (layout p)) (lent-is (omega arith)) ∙ put-behind l at (layout p))
   lent-output (refused k) h =
       back lent ∙ ap (λ (x : List ℕ). take at l ++ x) (lent-is (omega arith)) ∙ take-append-drop at l ∙ sym (put-nothing l at)

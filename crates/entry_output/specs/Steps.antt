@@ -4,7 +4,7 @@ use mathlib.Core.Path.{_≡_}
 use mathlib.Core.List.{List, _++_}
 use lib.ListN.{length, replicate}
 use Rattle.buffer.specs.Ascii.{ascii}
-use Rattle.decimal.specs.Decimal.{digits}
+use Rattle.digits.specs.Digits.{digits}
 use Rattle.writer.specs.declared.Profile.{Profile}
 use Rattle.writer.specs.declared.Profile.the-variants as P
 use Rattle.job.specs.declared.JobAnswer.{JobAnswer}

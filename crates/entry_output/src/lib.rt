@@ -3,15 +3,16 @@
 use color_encoding::JxlColorEncoding;
 use job::JobAnswer;
 use job::JobEntry;
+use writer::MAX_WRITTEN;
 use writer::Profile;
 ghost use mathlib.Core.Path.{_≡_};
 ghost use mathlib.Core.List.{_++_};
 ghost use Prim.Native.Nat.{_+_, _^_, _≤_, _<_};
 ghost use lib.ListN.{length, take};
 ghost use Rattle.buffer.specs.Puts.{PutsText};
-ghost use Rattle.decimal.specs.Decimal.{digits};
-ghost use Rattle.text.specs.Held.{HeldEncoding};
+ghost use Rattle.digits.specs.Digits.{digits};
 ghost use Rattle.encoding_plan.specs.PlanOf.{planOf};
+ghost use Rattle.writer.specs.Writer.{maxWritten};
 ghost use Rattle.job.specs.Bounds.{EntryBounds};
 ghost use Rattle.entry_output.specs.EntryOutput.{enough, profileBytes, lengthOrRefusal, entryLine, headOf, partOf};
 ghost use Rattle.entry_output.specs.Steps.{LineIs, Measures, Small, SmallAnswer, placeText, firstText};
@@ -28,15 +29,11 @@ pub struct Line {
     pub len: usize,
 }
 
-// The most bytes that any profile has.
-pub const MOST_PROFILE: usize = 1200;
-
 // The length of the profile of an encoding, or the refusal.
 fn measure(encoding: JxlColorEncoding) -> Profile
-    requires { ⌜ HeldEncoding encoding ⌝ }
     ensures { λ r. ⌜ r ≡ enough (planOf encoding) ⌝ }
 {
-    let mut scratch = [0u8; MOST_PROFILE];
+    let mut scratch = [0u8; MAX_WRITTEN];
     writer::maybe_create_profile(encoding, &mut scratch)
 }
 
@@ -46,7 +43,7 @@ fn put_worded(out: &mut [u8], at: usize, words: &[u8], n: u32) -> usize
     ensures { λ r. ⌜ PutsText (now (out .entry)) at (now (words .entry) ++ digits n) r (now (out .exit)) ⌝ }
 {
     let number = buffer::put_bytes(&mut *out, at, words);
-    decimal::put_up_to_four(&mut *out, number, n as u64)
+    digits::put_up_to_four(&mut *out, number, n as u64)
 }
 
 // The number of a section, a space, a place in it, a space.
@@ -54,7 +51,7 @@ fn put_place(out: &mut [u8], section: u32, place: u32) -> usize
     requires { ⌜ (section ≤ 3) × (place ≤ 255) × (24 ≤ length (now out)) ⌝ }
     ensures { λ r. ⌜ PutsText (now (out .entry)) 0 (placeText section place) r (now (out .exit)) ⌝ }
 {
-    let first = decimal::put_up_to_four(&mut *out, 0, section as u64);
+    let first = digits::put_up_to_four(&mut *out, 0, section as u64);
     let second = put_worded(&mut *out, first, b" ", place);
     buffer::put_byte(&mut *out, second, b' ')
 }
@@ -64,7 +61,7 @@ fn put_answer(out: &mut [u8], at: usize, answer: Profile) -> usize
     ensures { λ r. ⌜ PutsText (now (out .entry)) at (lengthOrRefusal answer) r (now (out .exit)) ⌝ }
 {
     match answer {
-        Profile::Written(n) => decimal::put_up_to_four(out, at, n as u64),
+        Profile::Written(n) => digits::put_up_to_four(out, at, n as u64),
         Profile::Refused(k) => put_worded(out, at, b"refused ", k),
     }
 }
@@ -128,7 +125,7 @@ fn put_profile(out: &mut [u8], at: usize, encoding: JxlColorEncoding) -> usize
 
 pub fn part_length(stream: Stream, entry: JobEntry) -> usize
     requires { ⌜ EntryBounds entry ⌝ }
-    ensures { λ r. ⌜ Measures (partOf stream entry) 1200 r ⌝ }
+    ensures { λ r. ⌜ Measures (partOf stream entry) maxWritten r ⌝ }
 {
     let encoding = entry.encoding;
     match stream {

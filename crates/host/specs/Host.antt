@@ -1,16 +1,25 @@
--- The calls from C that take a job: what each answers, and what it leaves in what it is lent. The numbers are those of 01's refusal list; 43 comes
--- after 41 and 42, as in the list. (A call that takes an encoding promises what the writer's specification says, `Writes`; there 43 comes first, as
--- 01 says of the host.) Assumes nothing.
+-- The calls from C: what each answers, and what it leaves in what it is lent. The numbers are those of 01's refusal list. A call that takes an encoding
+-- refuses 43 first, as 01 says of the host; one that takes a job after 41 and 42, as in the list. (A call that writes the profile of an entry promises
+-- what `ProfileOf` of job_output says, its answer as one number.) Assumes nothing.
 use Prim.Native.Nat.{ℕ}
 use mathlib.Core.Path.{_≡_}
 use mathlib.Core.List.{List}
 use lib.ListN.{length}
+use Rattle.buffer.specs.Checked.{Checked, then}
+use Rattle.color_encoding.specs.declared.JxlColorEncoding.{JxlColorEncoding}
+use Rattle.encoding_plan.specs.PlanOf.{planOf}
+use Rattle.writer.specs.Writer.{answer, number, profileBy, Writes}
 use Rattle.job.specs.declared.JobAnswer.{JobAnswer}
 use Rattle.job.specs.declared.JobAnswer.the-variants as A
-use Rattle.job.specs.declared.EntryAnswer.{EntryAnswer}
-use Rattle.job_output.specs.JobOutput.{profileAnswer, profileOutput}
 use Rattle.job_output.specs.declared.JobProfile.{JobProfile}
 use Rattle.job_output.specs.declared.JobProfile.the-variants as J
+
+-- ---- the profile of an encoding that comes by codes
+
+-- the writer's promise, with its answer as one number, which tells that answer
+pub record WritesCode (c : Checked JxlColorEncoding) (before after : List ℕ) (r : ℕ) : Type 0 where
+  pub writes : Writes number (then c planOf) before after r
+  pub told : profileBy r ≡ answer (then c planOf) (length before)
 
 -- ---- a job: how many entries it has
 
@@ -35,7 +44,3 @@ abbrev pub profileNumber : JobProfile → ℕ
 profileNumber (J.Written n) = n
 profileNumber J.Absent = 0
 profileNumber (J.Refused k) = k
-
-pub record WritesEntry (a : EntryAnswer) (before after : List ℕ) (r : ℕ) : Type 0 where
-  pub answer : r ≡ profileNumber (profileAnswer a (length before))
-  pub output : after ≡ profileOutput a before

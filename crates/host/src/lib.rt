@@ -9,19 +9,17 @@ use color_encoding::RenderingIntent;
 use job::JobAnswer;
 use job_output::JobProfile;
 use writer::Profile;
-ghost use Rattle.buffer.specs.Checked.{then};
 ghost use Rattle.color_encoding.specs.Codes.{whitePointFrom, primariesFrom, transferFunctionFrom, intentFrom};
 ghost use Rattle.color_encoding.specs.Codes.{knownEncoding, grayFrom, rgbFrom, xybFrom};
 ghost use Rattle.job.specs.Job as Job;
 ghost use Rattle.job.specs.Job.{jobAnswer, entryAnswer};
-ghost use Rattle.encoding_plan.specs.PlanOf.{planOf};
-ghost use Rattle.writer.specs.Writer.{number, Writes};
-ghost use Rattle.host.specs.Host.{CountsEntries, WritesEntry};
+ghost use Rattle.job_output.specs.JobOutput.{ProfileOf};
+ghost use Rattle.host.specs.Host.{WritesCode, CountsEntries, profileNumber};
 
 // ---- the profile of an encoding
 
 fn write(code: EncodingCode, out: &mut [u8]) -> u32
-    ensures { λ r. ⌜ Writes number (then (knownEncoding code) planOf) (now (out .entry)) (now (out .exit)) r ⌝ }
+    ensures { λ r. ⌜ WritesCode (knownEncoding code) (now (out .entry)) (now (out .exit)) r ⌝ }
 {
     match code {
         EncodingCode::Known(encoding) => match writer::maybe_create_profile(encoding, out) {
@@ -42,12 +40,13 @@ pub extern "C" fn merqyduk_write_gray(
     intent: u32,
     out: &mut [u8],
 ) -> u32
-    ensures { λ r. ⌜ Writes number (then (grayFrom (whitePointFrom white wx wy) (transferFunctionFrom curve gamma) (intentFrom intent)) planOf) (now (out .entry)) (now (out .exit)) r ⌝ }
+    ensures { λ r. ⌜ WritesCode (grayFrom (whitePointFrom white wx wy) (transferFunctionFrom curve gamma) (intentFrom intent)) (now (out .entry)) (now (out .exit)) r ⌝ }
 {
+    let curve = JxlTransferFunction::from_number(curve, gamma);
     write(
-        JxlColorEncoding::gray_from_codes(
+        encoding_codes::gray_from_codes(
             JxlWhitePoint::from_number(white, wx, wy),
-            JxlTransferFunction::from_number(curve, gamma),
+            curve,
             RenderingIntent::from_number(intent),
         ),
         out,
@@ -71,10 +70,10 @@ pub extern "C" fn merqyduk_write_rgb(
     intent: u32,
     out: &mut [u8],
 ) -> u32
-    ensures { λ r. ⌜ Writes number (then (rgbFrom (whitePointFrom white wx wy) (primariesFrom primaries rx ry gx gy bx by) (transferFunctionFrom curve gamma) (intentFrom intent)) planOf) (now (out .entry)) (now (out .exit)) r ⌝ }
+    ensures { λ r. ⌜ WritesCode (rgbFrom (whitePointFrom white wx wy) (primariesFrom primaries rx ry gx gy bx by) (transferFunctionFrom curve gamma) (intentFrom intent)) (now (out .entry)) (now (out .exit)) r ⌝ }
 {
     write(
-        JxlColorEncoding::rgb_from_codes(
+        encoding_codes::rgb_from_codes(
             JxlWhitePoint::from_number(white, wx, wy),
             JxlPrimaries::from_number(primaries, rx, ry, gx, gy, bx, by),
             JxlTransferFunction::from_number(curve, gamma),
@@ -86,10 +85,10 @@ pub extern "C" fn merqyduk_write_rgb(
 
 #[no_mangle]
 pub extern "C" fn merqyduk_write_xyb(intent: u32, out: &mut [u8]) -> u32
-    ensures { λ r. ⌜ Writes number (then (xybFrom (intentFrom intent)) planOf) (now (out .entry)) (now (out .exit)) r ⌝ }
+    ensures { λ r. ⌜ WritesCode (xybFrom (intentFrom intent)) (now (out .entry)) (now (out .exit)) r ⌝ }
 {
     write(
-        JxlColorEncoding::xyb_from_code(RenderingIntent::from_number(intent)),
+        encoding_codes::xyb_from_code(RenderingIntent::from_number(intent)),
         out,
     )
 }
@@ -112,7 +111,7 @@ pub extern "C" fn merqyduk_job(job: &[u8], entries: &mut u32) -> u32
 // The entries are numbered from 0 on, over all sections.
 #[no_mangle]
 pub extern "C" fn merqyduk_job_profile(job: &[u8], i: usize, out: &mut [u8]) -> u32
-    ensures { λ r. ⌜ WritesEntry (entryAnswer (Job.job 1 (now (job .entry))) i) (now (out .entry)) (now (out .exit)) r ⌝ }
+    ensures { λ r. ⌜ ProfileOf profileNumber (entryAnswer (Job.job 1 (now (job .entry))) i) (now (out .entry)) (now (out .exit)) r ⌝ }
 {
     match job_output::profile(job, i, out) {
         JobProfile::Written(n) => n,

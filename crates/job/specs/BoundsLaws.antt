@@ -7,7 +7,7 @@ use lib.ListN.{drop}
 use lib.Ieee.{Float, binary32}
 use lib.Ieee.Bits.{ofBits-fits}
 use Rattle.buffer.specs.Checked.{Checked, is, refused, then}
-use Rattle.numbers.specs.Words.{word32}
+use Rattle.words.specs.Words.{word32}
 use Rattle.color_encoding.specs.Codes.{whitePointFrom, primariesFrom, transferFunctionFrom, intentFrom}
 use Rattle.color_encoding.specs.declared.RenderingIntent.{RenderingIntent}
 use Rattle.color_encoding.specs.declared.JxlColorEncoding.{JxlColorEncoding}

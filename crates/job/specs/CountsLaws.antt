@@ -1,5 +1,5 @@
 -- The entries of a job from the three counts. Assumes nothing.
-use Prim.Native.Nat.{ℕ, _+_, _*_, _-_, _≤_, _<_}
+use Prim.Native.Nat.{ℕ, zero, suc, _+_, _*_, _-_, _≤_, _<_}
 use mathlib.Core.Path.{_≡_, refl, ap, _∙_}
 use mathlib.Core.List.{List, [], _∷_, _++_, map}
 use native.Mathlib.Nat.{zero-add}
@@ -11,7 +11,7 @@ use Rattle.color_encoding.specs.declared.JxlColorEncoding.{JxlColorEncoding}
 use Rattle.job_entry.specs.Entry.{grayEncoding, rgbEncoding, xybEncoding}
 use Rattle.job.specs.Job.{Section, Entry, gray, rgb, xyb, sections, entriesFrom, count, endsEarly, bytesLeft, cut, meaning, told, entryAlone}
 use Rattle.job.specs.JobLaws.{cut-whole, cut-early, cut-end, cut-left, length-entriesFrom, in-section, past-section}
-use Rattle.job.specs.Counts.{SpanIs, entriesBy, toldOf}
+use Rattle.job.specs.Counts.{SpanIs, entriesBy, toldOf, encodingOf}
 use Rattle.job.specs.declared.Span.the-variants as S
 use Rattle.job.specs.declared.EntryAnswer.{EntryAnswer}
 use Rattle.job.specs.declared.EntryAnswer.the-variants as E
@@ -38,7 +38,7 @@ module _ (l : List ℕ) where
 
   module _ (g : ℕ) (a : SpanIs l 0 15 (S.Whole g)) where
     after-gray : cut 1 sections l ≡ then (cut 1 (rgb ∷ xyb ∷ []) (drop (1 + g * 15) l)) (λ es. is (entriesFrom gray 1 g (drop 1 l) ++ es))
-    after-gray = at-section gray (rgb ∷ xyb ∷ []) 0 g 1 (1 + g * 15) refl (omega arith) (a .0) (omega arith)
+    after-gray = at-section gray (rgb ∷ xyb ∷ []) 0 g 1 (1 + g * 15) refl (omega arith) (a .counted) (omega arith)
 
     pub early-rgb : SpanIs l (1 + g * 15) 40 S.Early → cut 1 sections l ≡ endsEarly
     early-rgb h = after-gray ∙ rw (early-section rgb (xyb ∷ []) (1 + g * 15) h)
@@ -46,7 +46,7 @@ module _ (l : List ℕ) where
     module _ (r : ℕ) (b : SpanIs l (1 + g * 15) 40 (S.Whole r)) where
       after-rgb : cut 1 (rgb ∷ xyb ∷ []) (drop (1 + g * 15) l)
           ≡ then (cut 1 (xyb ∷ []) (drop (1 + g * 15 + 1 + r * 40) l)) (λ es. is (entriesFrom rgb 1 r (drop (2 + g * 15) l) ++ es))
-      after-rgb = at-section rgb (xyb ∷ []) (1 + g * 15) r (2 + g * 15) (1 + g * 15 + 1 + r * 40) (omega arith) (omega arith) (b .0) (omega arith)
+      after-rgb = at-section rgb (xyb ∷ []) (1 + g * 15) r (2 + g * 15) (1 + g * 15 + 1 + r * 40) (omega arith) (omega arith) (b .counted) (omega arith)
 
       pub early-xyb : SpanIs l (1 + g * 15 + 1 + r * 40) 1 S.Early → cut 1 sections l ≡ endsEarly
       early-xyb h = after-gray ∙ rw (after-rgb, early-section xyb [] (1 + g * 15 + 1 + r * 40) h)
@@ -54,7 +54,7 @@ module _ (l : List ℕ) where
       module _ (x : ℕ) (d : SpanIs l (1 + g * 15 + 1 + r * 40) 1 (S.Whole x)) where
         after-xyb : cut 1 (xyb ∷ []) (drop (1 + g * 15 + 1 + r * 40) l)
             ≡ then (cut 1 [] (drop (3 + g * 15 + r * 40 + x) l)) (λ es. is (entriesFrom xyb 1 x (drop (3 + g * 15 + r * 40) l) ++ es))
-        after-xyb = at-section xyb [] (1 + g * 15 + 1 + r * 40) x (3 + g * 15 + r * 40) (3 + g * 15 + r * 40 + x) (omega arith) (omega arith) (d .0) (omega arith)
+        after-xyb = at-section xyb [] (1 + g * 15 + 1 + r * 40) x (3 + g * 15 + r * 40) (3 + g * 15 + r * 40 + x) (omega arith) (omega arith) (d .counted) (omega arith)
 
         pub bytes-left : 3 + g * 15 + r * 40 + x < length l → cut 1 sections l ≡ bytesLeft
         bytes-left h = after-gray ∙ rw (after-rgb, after-xyb, cut-left 1 (drop (3 + g * 15 + r * 40 + x) l) (rw length-drop (omega arith)))
@@ -68,11 +68,18 @@ pub length-entriesBy : (l : List ℕ) (g r x : ℕ) → length (entriesBy l g r 
 length-entriesBy l g r x = simp (length-append, length-entriesFrom) (omega arith)
 
 -- what a part of m bytes from a place on means, answered as an entry
-pub told-part : (n k at m : ℕ) (f : List ℕ → Checked JxlColorEncoding) (l : List ℕ) {a : EntryAnswer} {c : Checked JxlColorEncoding}
-    → a ≡ toldOf n k c → c ≡ f (take (at + m - at) (drop at l)) → a ≡ toldOf n k (f (take m (drop at l)))
-told-part n k at m f l e h =
+pub told-part : (n k at m : ℕ) (l : List ℕ) {a : EntryAnswer} {c : Checked JxlColorEncoding}
+    → a ≡ toldOf n k c → c ≡ encodingOf n (take (at + m - at) (drop at l)) → a ≡ toldOf n k (encodingOf n (take m (drop at l)))
+told-part n k at m l e h =
     let size : at + m - at ≡ m = omega arith in
-    e ∙ ap (toldOf n k) h ∙ ap (λ (j : ℕ). toldOf n k (f (take j (drop at l)))) size
+    e ∙ ap (toldOf n k) h ∙ ap (λ (j : ℕ). toldOf n k (encodingOf n (take j (drop at l)))) size
+
+-- the third section's number is neither of the first two
+pub other-section : (n : ℕ) (b : List ℕ) → (n ≡ 1 → ⊥) → (n ≡ 2 → ⊥) → encodingOf n b ≡ xybEncoding b
+other-section zero b p q = refl
+other-section (suc zero) b p q = absurd (p refl)
+other-section (suc (suc zero)) b p q = absurd (q refl)
+other-section (suc (suc (suc n))) b p q = refl
 
 abbrev alone : Entry → EntryAnswer
 alone e = told (meaning e)

@@ -54,7 +54,7 @@ module _ (l : List ℕ) (g r x i : ℕ) (hg : g < 256) (hr : r < 256) (hx : x < 
 -- what answers the i-th entry is that entry, within its bounds
 pub answers-entry : (l : List ℕ) (g r x i : ℕ) → Filled l (C.Whole g r x) → {a : EntryAnswer} → a ≡ entryAlone (is (entriesBy l g r x)) i
     → AnswersEntry (entryAlone (is (entriesBy l g r x)) i) a
-answers-entry l g r x i f e = record { answer = e; bounds = bounds-same e (bounds-alone l g r x i (f .1) (f .2) (f .3)) }
+answers-entry l g r x i f e = record { answer = e; bounds = bounds-same e (bounds-alone l g r x i (f .gray-few) (f .rgb-few) (f .xyb-few)) }
 
 -- ---- a job that is cut into sections
 
@@ -114,7 +114,11 @@ counts l bytes e =
       gray-few = hg;
       rgb-few = hr;
       xyb-few = hx;
-      whole = all-there l g (refl, omega arith, hg) r (refl, fits, hr) x (refl, ends, hx) all;
+      whole = all-there l
+          g (record { counted = refl; fits = omega arith; few = hg })
+          r (record { counted = refl; fits = fits; few = hr })
+          x (record { counted = refl; fits = ends; few = hx })
+          all;
     }
 
 -- ---- the entries of a job

@@ -20,7 +20,11 @@ too-long l b h =
     let hr : r < 256 = small l b (1 + g * 15) (omega arith) in
     let x = count 1 (drop (1 + g * 15 + 1 + r * 40) l) in
     let hx : x < 256 = small l b (1 + g * 15 + 1 + r * 40) (omega arith) in
-    cut-refused 1 l (bytes-left l g (refl, omega arith, hg) r (refl, omega arith, hr) x (refl, omega arith, hx) (omega arith))
+    cut-refused 1 l (bytes-left l
+    g (record { counted = refl; fits = omega arith; few = hg })
+    r (record { counted = refl; fits = omega arith; few = hr })
+    x (record { counted = refl; fits = omega arith; few = hx })
+    (omega arith))
 
 pub first-bytes : (l : List ℕ) → Bytes l → 14283 < length l → job 1 (take 14284 l) ≡ job 1 l
 first-bytes l b h =

@@ -7,12 +7,13 @@ use job_entry::gray_encoding;
 use job_entry::rgb_encoding;
 use job_entry::xyb_encoding;
 ghost use mathlib.Core.Path.{_≡_};
-ghost use Prim.Native.Nat.{_≤_};
+ghost use Prim.Native.Nat.{_+_, _*_, _≤_, _<_};
+ghost use lib.ListN.{length};
 ghost use Rattle.buffer.specs.Checked.{is};
 ghost use Rattle.color_encoding.specs.Codes.{knownEncoding};
 ghost use Rattle.job.specs.Job as Job;
 ghost use Rattle.job.specs.Job.{sections, cut, jobAnswer, entryAnswer, entryAlone};
-ghost use Rattle.job.specs.Counts.{SpanIs, Counted, Filled, entriesBy, toldOf, Sized};
+ghost use Rattle.job.specs.Counts.{SpanIs, Counted, Filled, entriesBy, encodingOf, entryIn, toldOf, Sized};
 ghost use Rattle.job.specs.Bounds.{AnswersEntry, AnswersJob};
 
 // An entry of a job: the number of its section (1 gray, 2 RGB, 3 XYB), its place there from 1 on, and what it means.
@@ -119,24 +120,43 @@ fn answered(section: u32, place: usize, code: EncodingCode) -> EntryAnswer
     }
 }
 
+// What the bytes of an entry mean, by the number of its section.
+fn encoding_of(section: u32, entry: &[u8]) -> EncodingCode
+    ensures { λ r. ⌜ knownEncoding r ≡ encodingOf section (now (entry .entry)) ⌝ }
+{
+    match section {
+        1 => gray_encoding(entry),
+        2 => rgb_encoding(entry),
+        _ => xyb_encoding(entry),
+    }
+}
+
+// The i-th entry of a section whose entries, of so many bytes, begin at a place of the job.
+fn entry_in(job: &[u8], section: u32, size: usize, start: usize, i: usize) -> EntryAnswer
+    requires { ⌜ (i < 256) × (start + i * size + size ≤ length (now job)) ⌝ }
+    ensures { λ r. ⌜ r ≡ entryIn (now (job .entry)) section size start i ⌝ }
+{
+    let at = start + i * size;
+    answered(section, i + 1, encoding_of(section, &job[at..at + size]))
+}
+
 // The i-th entry, of a job whose counts are known.
 fn entry_by(job: &[u8], gray: usize, rgb: usize, xyb: usize, i: usize) -> EntryAnswer
     requires { ⌜ Filled (now job) (Counts.Whole gray rgb xyb) ⌝ }
     ensures { λ r. ⌜ AnswersEntry (entryAlone (is (entriesBy (now (job .entry)) gray rgb xyb)) i) r ⌝ }
 {
     if i < gray {
-        let at = 1 + i * GRAY_BYTES;
-        return answered(1, i + 1, gray_encoding(&job[at..at + GRAY_BYTES]));
+        return entry_in(job, 1, GRAY_BYTES, 1, i);
     }
+    let rgb_start = 2 + gray * GRAY_BYTES;
     let j = i - gray;
     if j < rgb {
-        let at = 2 + gray * GRAY_BYTES + j * RGB_BYTES;
-        return answered(2, j + 1, rgb_encoding(&job[at..at + RGB_BYTES]));
+        return entry_in(job, 2, RGB_BYTES, rgb_start, j);
     }
+    let xyb_start = rgb_start + rgb * RGB_BYTES + 1;
     let k = j - rgb;
     if k < xyb {
-        let at = 3 + gray * GRAY_BYTES + rgb * RGB_BYTES + k * XYB_BYTES;
-        return answered(3, k + 1, xyb_encoding(&job[at..at + XYB_BYTES]));
+        return entry_in(job, 3, XYB_BYTES, xyb_start, k);
     }
     EntryAnswer::Absent
 }

@@ -4,7 +4,7 @@ use mathlib.Core.List.{List}
 use lib.ListN.{drop, getD}
 use lib.Ieee.{Float, binary32, ofBits}
 use Rattle.buffer.specs.Checked.{Checked}
-use Rattle.numbers.specs.Words.{word32}
+use Rattle.words.specs.Words.{word32}
 use Rattle.color_encoding.specs.declared.RenderingIntent.{RenderingIntent}
 use Rattle.color_encoding.specs.declared.JxlWhitePoint.{JxlWhitePoint}
 use Rattle.color_encoding.specs.declared.JxlPrimaries.{JxlPrimaries}

@@ -26,7 +26,7 @@ fn number_at(entry: &[u8], at: usize) -> u32
 fn float_at(entry: &[u8], at: usize) -> f32
     ensures { λ r. ⌜ r ≡ floatAt (now (entry .entry)) at ⌝ }
 {
-    numbers::f32_from_bits(numbers::read_u32_be(entry, at))
+    numbers::f32_from_bits(words::read_u32_be(entry, at))
 }
 
 fn white_at(entry: &[u8], at: usize) -> WhitePointCode
@@ -73,13 +73,13 @@ fn intent_at(entry: &[u8], at: usize) -> IntentCode
 pub fn gray_encoding(entry: &[u8]) -> EncodingCode
     ensures { λ r. ⌜ knownEncoding r ≡ grayEncoding (now (entry .entry)) ⌝ }
 {
-    JxlColorEncoding::gray_from_codes(white_at(entry, 0), curve_at(entry, 9), intent_at(entry, 14))
+    encoding_codes::gray_from_codes(white_at(entry, 0), curve_at(entry, 9), intent_at(entry, 14))
 }
 
 pub fn rgb_encoding(entry: &[u8]) -> EncodingCode
     ensures { λ r. ⌜ knownEncoding r ≡ rgbEncoding (now (entry .entry)) ⌝ }
 {
-    JxlColorEncoding::rgb_from_codes(
+    encoding_codes::rgb_from_codes(
         white_at(entry, 0),
         primaries_at(entry, 9),
         curve_at(entry, 34),
@@ -90,5 +90,5 @@ pub fn rgb_encoding(entry: &[u8]) -> EncodingCode
 pub fn xyb_encoding(entry: &[u8]) -> EncodingCode
     ensures { λ r. ⌜ knownEncoding r ≡ xybEncoding (now (entry .entry)) ⌝ }
 {
-    JxlColorEncoding::xyb_from_code(intent_at(entry, 0))
+    encoding_codes::xyb_from_code(intent_at(entry, 0))
 }

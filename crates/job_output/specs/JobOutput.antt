@@ -9,7 +9,7 @@ use Rattle.buffer.specs.Buffer.{put}
 use Rattle.buffer.specs.Checked.{Checked, is, refused}
 use Rattle.profile.specs.TagTypes.{join}
 use Rattle.encoding_plan.specs.PlanOf.{planOf}
-use Rattle.writer.specs.Writer.{answer, output}
+use Rattle.writer.specs.Writer.{answer, output, tooShort}
 use Rattle.writer.specs.declared.Profile.{Profile}
 use Rattle.writer.specs.declared.Profile.the-variants as P
 use Rattle.job.specs.Job.{jobAnswer}
@@ -42,9 +42,6 @@ profiles j = outputOf S.Profiles j
 
 -- ---- bytes put to the front of an output that is lent; 9, and nothing put, where it is shorter
 
-abbrev pub tooShort : ℕ
-tooShort = 9
-
 pub record Lends (bytes before after : List ℕ) (r : Output) : Type 0 where
   pub answer : r ≡ cond (leb (length bytes) (length before)) (O.Written (length bytes)) (O.Refused tooShort)
   pub output : after ≡ cond (leb (length bytes) (length before)) (put before 0 bytes) before
@@ -66,6 +63,7 @@ profileOutput (E.Is e) out = output (planOf (e .encoding)) out
 profileOutput E.Absent out = out
 profileOutput (E.Refused k) out = out
 
-pub record ProfileOf (a : EntryAnswer) (before after : List ℕ) (r : JobProfile) : Type 0 where
-  pub answer : r ≡ profileAnswer a (length before)
+-- the promise of a call that writes the profile of an entry, as `Writes` is the writer's: its answer r as `shown` shows it
+pub record ProfileOf {A : Type 0} (shown : JobProfile → A) (a : EntryAnswer) (before after : List ℕ) (r : A) : Type 0 where
+  pub answer : r ≡ shown (profileAnswer a (length before))
   pub output : after ≡ profileOutput a before

@@ -7,7 +7,8 @@ use native.Mathlib.Omega.{arith}
 use lib.Dec.{leb}
 use lib.ListN.{length}
 use borrow.Author.Tests.{leb-true}
-use Rattle.job_output.specs.JobOutput.{tooShort, Lends}
+use Rattle.writer.specs.Writer.{tooShort}
+use Rattle.job_output.specs.JobOutput.{Lends}
 use Rattle.job_output.specs.declared.Output.{Output}
 use Rattle.job_output.specs.declared.Output.the-variants.{Written, Refused}
 

@@ -6,8 +6,9 @@ use mathlib.Core.List.{List}
 use native.Mathlib.Omega.{arith}
 use lib.ListN.{length, length-append}
 use Rattle.buffer.specs.Checked.{Checked, is, refused}
-use Rattle.decimal.specs.DecimalLaws.{length-digits}
+use Rattle.digits.specs.DigitsLaws.{length-digits}
 use Rattle.profile.specs.TagTypes.{join}
+use Rattle.writer.specs.Writer.{maxWritten}
 use Rattle.job.specs.Job.{job}
 use Rattle.job.specs.Bounds.{Bytes}
 use Rattle.job.specs.JobBounds.{job-bounds, job-refused}
@@ -38,5 +39,5 @@ profiles-most l bytes = go (job 1 l) refl
     go : (j : Checked (List JobEntry)) → job 1 l ≡ j → length (profiles j) ≤ 918000
     go (is es) h =
         let within = job-bounds l bytes h in
-        omega (arith, parts-most S.Profiles 1200 (λ e f. profile-most (e .encoding) (f .floats)) (within .all), within .few)
+        omega (arith, parts-most S.Profiles maxWritten (λ e f. profile-most (e .encoding) (f .floats)) (within .all), within .few)
     go (refused k) h = omega arith

@@ -7,7 +7,7 @@ use lib.ListN.{length, length-append}
 use Rattle.buffer.specs.All.{All, none, more}
 use Rattle.buffer.specs.Checked.{Checked, is, refused}
 use Rattle.color_encoding.specs.declared.JxlColorEncoding.{JxlColorEncoding}
-use Rattle.decimal.specs.DecimalLaws.{length-digits}
+use Rattle.digits.specs.DigitsLaws.{length-digits}
 use Rattle.text.specs.Held.{HeldEncoding}
 use Rattle.profile.specs.TagTypes.{join}
 use Rattle.profile.specs.Plan.{Plan}

@@ -19,7 +19,8 @@ use Rattle.job.specs.declared.JobAnswer.{JobAnswer}
 use Rattle.job.specs.declared.JobAnswer.the-variants as A
 use Rattle.job.specs.declared.EntryAnswer.the-variants as E
 use Rattle.entry_output.specs.EntryOutput.{headOf, partOf}
-use Rattle.job_output.specs.JobOutput.{tooShort, partsOf, outputOf, Lends}
+use Rattle.writer.specs.Writer.{tooShort}
+use Rattle.job_output.specs.JobOutput.{partsOf, outputOf, Lends}
 use Rattle.entry_output.specs.Steps.{SmallAnswer}
 use Rattle.job_output.specs.Entries.{Entries}
 use Rattle.entry_output.specs.declared.Stream.{Stream}

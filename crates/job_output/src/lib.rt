@@ -15,20 +15,18 @@ ghost use lib.ListN.{length};
 ghost use Rattle.buffer.specs.Puts.{PutsText};
 ghost use Rattle.profile.specs.TagTypes.{join};
 ghost use Rattle.entry_output.specs.Steps.{Measures};
+ghost use Rattle.writer.specs.Writer.{maxWritten};
 ghost use Rattle.job.specs.Job as Job;
 ghost use Rattle.job.specs.Job.{entryAnswer};
 ghost use Rattle.job_output.specs.JobOutput as Out;
-ghost use Rattle.job_output.specs.JobOutput.{partsOf, outputOf, Lends, ProfileOf};
+ghost use Rattle.job_output.specs.JobOutput.{partsOf, outputOf, fromWriter, Lends, ProfileOf};
 ghost use Rattle.job_output.specs.Entries.{Entries};
-
-// The refusal of an output that is too short.
-const TOO_SHORT: u32 = 9;
 
 // The most bytes of a listing: a first line of up to 13 (`profiles 765`), and a line of up to 16 for each entry (`2 255 refused 7`); and of the
 // profiles of a job together (specs/Most.antt).
 pub const MOST_LISTING: usize = 13 + job::MOST_ENTRIES * 16;
 
-pub const MOST_PROFILES: usize = job::MOST_ENTRIES * entry_output::MOST_PROFILE;
+pub const MOST_PROFILES: usize = job::MOST_ENTRIES * writer::MAX_WRITTEN;
 
 // How many bytes were put to the front of a lent output; or 9, where it is too short for them.
 pub enum Output {
@@ -47,7 +45,7 @@ pub enum JobProfile {
 
 fn parts_length(stream: Stream, job: &[u8], n: usize) -> usize
     requires { ⌜ Entries (now job) n ⌝ }
-    ensures { λ r. ⌜ Measures (join (partsOf stream (Job.job 1 (now (job .entry))))) (n * 1200) r ⌝ }
+    ensures { λ r. ⌜ Measures (join (partsOf stream (Job.job 1 (now (job .entry))))) (n * maxWritten) r ⌝ }
 {
     let mut total = 0usize;
     let mut i = 0usize;
@@ -102,7 +100,7 @@ fn lend(stream: Stream, job: &[u8], out: &mut [u8]) -> Output
     ensures { λ r. ⌜ Lends (outputOf stream (Job.job 1 (now (job .entry)))) (now (out .entry)) (now (out .exit)) r ⌝ }
 {
     if out.len() < output_length(stream, job) {
-        return Output::Refused(TOO_SHORT);
+        return Output::Refused(writer::TOO_SHORT);
     }
     Output::Written(put_output(stream, job, out))
 }
@@ -137,17 +135,23 @@ pub fn profiles(job: &[u8], out: &mut [u8]) -> Output
     lend(Stream::Profiles, job, out)
 }
 
+fn from_writer(answer: Profile) -> JobProfile
+    ensures { λ r. ⌜ r ≡ fromWriter answer ⌝ }
+{
+    match answer {
+        Profile::Written(n) => JobProfile::Written(n),
+        Profile::Refused(k) => JobProfile::Refused(k),
+    }
+}
+
 // Writes the profile of the i-th entry, the first being the 0-th over all sections, to the front of the output.
 pub fn profile(job: &[u8], i: usize, out: &mut [u8]) -> JobProfile
-    ensures { λ r. ⌜ ProfileOf (entryAnswer (Job.job 1 (now (job .entry))) i) (now (out .entry)) (now (out .exit)) r ⌝ }
+    ensures { λ r. ⌜ ProfileOf (λ p. p) (entryAnswer (Job.job 1 (now (job .entry))) i) (now (out .entry)) (now (out .exit)) r ⌝ }
 {
     match job::entry(job, i) {
         EntryAnswer::Is(entry) => {
             let encoding = entry.encoding;
-            match writer::maybe_create_profile(encoding, out) {
-                Profile::Written(n) => JobProfile::Written(n),
-                Profile::Refused(k) => JobProfile::Refused(k),
-            }
+            from_writer(writer::maybe_create_profile(encoding, out))
         }
         EntryAnswer::Absent => JobProfile::Absent,
         EntryAnswer::Refused(k) => JobProfile::Refused(k),

@@ -1,6 +1,7 @@
 -- 1,200 bytes are enough for every profile. Assumes nothing.
 use mathlib.Core.Path.{_∙_}
 use lib.Dec.{lit≤}
+use Rattle.writer.specs.Writer.{maxWritten}
 use Rattle.entry_output.specs.EntryOutputLaws.{enough-answer}
 use borrow.Author.Needs.{needs}
 use Rattle.entry_output.proofs.measure.Statement.{statement}
@@ -13,7 +14,9 @@ maybe-create-profile-requires : tie.Need-maybe-create-profile-requires
 maybe-create-profile-requires c κs = search needs
 
 returns : tie.Need-returns
-returns c = c .before .maybe-create-profile .ensures .answer ∙ enough-answer (c .before .before .before .args .encoding) (c .before .before .before .pre) 1200 (lit≤ tt)
+returns c =
+    let call = c .before .maybe-create-profile .ensures in
+    call .writes .answer ∙ enough-answer (c .before .before .before .args .encoding) (call .held) maxWritten (lit≤ tt)
 
 pub measure-spec : {M : Type 1} → statement M
 measure-spec =

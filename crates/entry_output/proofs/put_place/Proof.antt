@@ -5,8 +5,8 @@ use native.Mathlib.Omega.{arith}
 use lib.ListN.{length-append}
 use Rattle.buffer.specs.Ascii.{ascii}
 use Rattle.buffer.specs.PutsLaws.{then, wrote}
-use Rattle.decimal.specs.Decimal.{digits}
-use Rattle.decimal.specs.DecimalLaws.{length-digits}
+use Rattle.digits.specs.Digits.{digits}
+use Rattle.digits.specs.DigitsLaws.{length-digits}
 use Rattle.entry_output.specs.Steps.{placeText}
 use borrow.Author.Needs.{needs}
 use Rattle.entry_output.proofs.put_place.Statement.{statement}

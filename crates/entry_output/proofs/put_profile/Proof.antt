@@ -40,7 +40,7 @@ same-length c = search needs
 returns : tie.Need-returns
 returns c =
     let start = c .before .before .before .before .before .before .before .before in
-    let call = c .before .before .before .before .before .maybe-create-profile .ensures in
+    let call = c .before .before .before .before .before .maybe-create-profile .ensures .writes in
     let p = planOf (start .args .encoding) in
     let told = sym (call .answer ∙ lent-answer (start .args .out .now) (start .args .at) p (start .pre)) ∙ c .before .n .given .1 in
     record {
@@ -55,7 +55,7 @@ same-length-2 c = search needs
 returns-2 : tie.Need-returns-2
 returns-2 c =
     let start = c .before .before .before .before .before .before .before in
-    let call = c .before .before .before .before .maybe-create-profile .ensures in
+    let call = c .before .before .before .before .maybe-create-profile .ensures .writes in
     let p = planOf (start .args .encoding) in
     let told = sym (call .answer ∙ lent-answer (start .args .out .now) (start .args .at) p (start .pre)) ∙ c .enum-told .given .1 in
     record {

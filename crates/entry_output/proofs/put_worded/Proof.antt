@@ -3,7 +3,7 @@ use mathlib.Core.Path.{refl}
 use mathlib.Core.List.{_++_}
 use native.Mathlib.Omega.{arith}
 use Rattle.buffer.specs.PutsLaws.{then, wrote}
-use Rattle.decimal.specs.Decimal.{digits}
+use Rattle.digits.specs.Digits.{digits}
 use borrow.Author.Needs.{needs}
 use Rattle.entry_output.proofs.put_worded.Statement.{statement}
 use Rattle.entry_output.proofs.put_worded.Tie as tie

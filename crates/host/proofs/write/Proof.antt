@@ -1,6 +1,6 @@
 -- The number of what the writer answers, or 43 for a code without meaning. Assumes nothing.
-use mathlib.Core.Path.{refl, sym, ap, _∙_}
-use Rattle.writer.specs.Writer.{number}
+use mathlib.Core.Path.{refl}
+use Rattle.host.specs.HostLaws.{code-written}
 use borrow.Author.Needs.{needs}
 use Rattle.host.proofs.write.Statement.{statement}
 use Rattle.host.proofs.write.Tie as tie
@@ -26,8 +26,7 @@ same-length c = search needs
 returns : tie.Need-returns
 returns c =
     let call = c .before .before .before .before .before in
-    rw (call .before .before .before .code .given .1)
-    (record { answer = ap number (sym (c .before .n .given .1) ∙ call .maybe-create-profile .ensures .answer); output = call .maybe-create-profile .ensures .output })
+    rw (call .before .before .before .code .given .1) (code-written (call .maybe-create-profile .ensures) (c .before .n .given .1))
 
 same-length-2 : tie.Need-same-length-2
 same-length-2 c = search needs
@@ -35,11 +34,10 @@ same-length-2 c = search needs
 returns-2 : tie.Need-returns-2
 returns-2 c =
     let call = c .before .before .before .before .before in
-    rw (call .before .before .before .code .given .1)
-    (record { answer = ap number (sym (c .before .number .given .1) ∙ call .maybe-create-profile .ensures .answer); output = call .maybe-create-profile .ensures .output })
+    rw (call .before .before .before .code .given .1) (code-written (call .maybe-create-profile .ensures) (c .before .number .given .1))
 
 returns-3 : tie.Need-returns-3
-returns-3 c = rw (c .enum-told .given .1) (record { answer = refl; output = refl })
+returns-3 c = rw (c .enum-told .given .1) (record { writes = record { answer = refl; output = refl }; told = refl })
 
 pub write-spec : {M : Type 1} → statement M
 write-spec =

@@ -1,10 +1,9 @@
 -- By the counts, or their refusal. Assumes nothing.
 use Rattle.job.specs.Job.{jobAnswer}
 use Rattle.job.specs.JobLaws.{cut-refused}
-use Prim.Native.Nat.{_<_}
 use mathlib.Core.Path.{sym, ap, _∙_}
 use native.Mathlib.Omega.{arith}
-use Rattle.job.specs.Counts.{entriesBy, cutBy}
+use Rattle.job.specs.Counts.{entriesBy, cutBy, FilledBy}
 use Rattle.job.specs.CountsLaws.{length-entriesBy}
 use borrow.Author.Needs.{needs}
 use Rattle.job.proofs.entries.Statement.{statement}
@@ -17,16 +16,15 @@ enum-known-gray : tie.Need-enum-known-gray
 enum-known-gray c = search needs
 
 -- each count is below 256
-small : (c : tie.After-known-told) → (c .before .gray .given .0 .0 < 256) × (c .before .gray .given .0 .1 .0 < 256) × (c .before .gray .given .0 .1 .1 .0 < 256)
-small c =
-    let filled = rw (c .before .gray .given .1) at (c .before .before .before .section-counts .ensures .filled) in
-    (filled .1, filled .2, filled .3)
+filled : (c : tie.After-known-told)
+    → FilledBy (c .before .before .before .before .before .args .job .now) (c .before .gray .given .0 .0) (c .before .gray .given .0 .1 .0) (c .before .gray .given .0 .1 .1 .0)
+filled c = rw (c .before .gray .given .1) at (c .before .before .before .section-counts .ensures .filled)
 
 add-walk : tie.Need-add-walk
-add-walk c = omega (arith, small c .0, small c .1)
+add-walk c = omega (arith, filled c .gray-few, filled c .rgb-few)
 
 add-walk-2 : tie.Need-add-walk-2
-add-walk-2 c = omega (arith, small c .0, small c .1, small c .2)
+add-walk-2 c = omega (arith, filled c .gray-few, filled c .rgb-few, filled c .xyb-few)
 
 walk-requires : tie.Need-walk-requires
 walk-requires c κs =
@@ -36,7 +34,7 @@ walk-requires c κs =
       entries = entriesBy l (told .0 .0) (told .0 .1 .0) (told .0 .1 .1 .0);
       given = c .before .before .before .section-counts .ensures .by ∙ ap (cutBy l) (told .1);
       size = length-entriesBy l (told .0 .0) (told .0 .1 .0) (told .0 .1 .1 .0);
-      small = omega (arith, small c .0, small c .1, small c .2);
+      small = omega (arith, filled c .gray-few, filled c .rgb-few, filled c .xyb-few);
     }
 
 enum-known-number : tie.Need-enum-known-number

@@ -26,7 +26,11 @@ sub-if2 c = search needs
 returns : tie.Need-returns
 returns c =
     let start = c .before .before .before in
-    (one-byte (start .args .job .now) (start .args .at) (omega arith), omega arith, omega (arith, c .before .shared-slice-known .given (start .args .at)))
+    record {
+      counted = one-byte (start .args .job .now) (start .args .at) (omega arith);
+      fits = omega arith;
+      few = omega (arith, c .before .shared-slice-known .given (start .args .at));
+    }
 
 returns-2 : tie.Need-returns-2
 returns-2 c =

@@ -40,10 +40,10 @@ xyb-is c =
     known (c .before .before .before .before .before .before .before .before .before .before .before .before .before .args .job .now) (1 + c .before .before .before .before .before .before .before .before .before .gray .given .0 .0 * 15 + 1 + c .before .before .before .before .before .rgb .given .0 .0 * 40) 1 (c .before .xyb .given .1) (c .before .before .before .section-at3 .ensures)
 
 mul-rgb-at : tie.Need-mul-rgb-at
-mul-rgb-at c = omega (arith, gray-is c .2)
+mul-rgb-at c = omega (arith, gray-is c .few)
 
 add-rgb-at : tie.Need-add-rgb-at
-add-rgb-at c = omega (arith, gray-is c .2)
+add-rgb-at c = omega (arith, gray-is c .few)
 
 section-at-requires-2 : tie.Need-section-at-requires-2
 section-at-requires-2 c κs = search needs
@@ -61,13 +61,13 @@ returns-2 c =
     record { by = early-rgb l g (gray-is (c .before .before .before)) (known l (1 + g * 15) 40 (c .enum-told2 .given .1) (c .before .before .section-at2 .ensures)); filled = lit≤ tt }
 
 add-xyb-at : tie.Need-add-xyb-at
-add-xyb-at c = omega (arith, gray-is (c .before .before .before .before) .2)
+add-xyb-at c = omega (arith, gray-is (c .before .before .before .before) .few)
 
 mul-xyb-at : tie.Need-mul-xyb-at
-mul-xyb-at c = omega (arith, rgb-is c .2)
+mul-xyb-at c = omega (arith, rgb-is c .few)
 
 add-xyb-at-2 : tie.Need-add-xyb-at-2
-add-xyb-at-2 c = omega (arith, gray-is (c .before .before .before .before) .2, rgb-is c .2)
+add-xyb-at-2 c = omega (arith, gray-is (c .before .before .before .before) .few, rgb-is c .few)
 
 section-at-requires-3 : tie.Need-section-at-requires-3
 section-at-requires-3 c κs = search needs
@@ -86,13 +86,13 @@ returns-3 c =
     record { by = early-xyb l g (gray-is (c .before .before .before .before .before .before .before)) r (rgb-is (c .before .before .before)) (known l (1 + g * 15 + 1 + r * 40) 1 (c .enum-told3 .given .1) (c .before .before .section-at3 .ensures)); filled = lit≤ tt }
 
 add-if1 : tie.Need-add-if1
-add-if1 c = omega (arith, gray-is (c .before .before .before .before .before .before .before .before) .2, rgb-is (c .before .before .before .before) .2)
+add-if1 c = omega (arith, gray-is (c .before .before .before .before .before .before .before .before) .few, rgb-is (c .before .before .before .before) .few)
 
 mul-if1 : tie.Need-mul-if1
 mul-if1 c = search needs
 
 add-if1-2 : tie.Need-add-if1-2
-add-if1-2 c = omega (arith, gray-is (c .before .before .before .before .before .before .before .before) .2, rgb-is (c .before .before .before .before) .2, xyb-is c .2)
+add-if1-2 c = omega (arith, gray-is (c .before .before .before .before .before .before .before .before) .few, rgb-is (c .before .before .before .before) .few, xyb-is c .few)
 
 returns-4 : tie.Need-returns-4
 returns-4 c =
@@ -105,8 +105,8 @@ returns-5 c =
     let a = gray-is (c .before .before .before .before .before .before .before .before .before) in
     let d = rgb-is (c .before .before .before .before .before) in
     let e = xyb-is (c .before) in
-    let all : 3 + c .before .before .before .before .before .before .before .before .before .before .gray .given .0 .0 * 15 + c .before .before .before .before .before .before .rgb .given .0 .0 * 40 + c .before .before .xyb .given .0 .0 ≡ length l = omega (arith, e .1) in
-    record { by = all-there l _ a _ d _ e all; filled = (all, a .2, d .2, e .2) }
+    let all : 3 + c .before .before .before .before .before .before .before .before .before .before .gray .given .0 .0 * 15 + c .before .before .before .before .before .before .rgb .given .0 .0 * 40 + c .before .before .xyb .given .0 .0 ≡ length l = omega (arith, e .fits) in
+    record { by = all-there l _ a _ d _ e all; filled = record { all = all; gray-few = a .few; rgb-few = d .few; xyb-few = e .few } }
 
 pub section-counts-spec : {M : Type 1} → statement M
 section-counts-spec =

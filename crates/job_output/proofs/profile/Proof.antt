@@ -1,11 +1,22 @@
 -- The entry, then what the writer does with it. Assumes nothing.
-use mathlib.Core.Path.{sym, ap, _∙_}
+use mathlib.Core.Path.{_≡_, refl, sym, ap, _∙_}
+use mathlib.Core.List.{List}
+use Prim.Native.Nat.{ℕ}
 use lib.ListN.{length}
 use Rattle.job.specs.declared.EntryAnswer.{EntryAnswer}
-use Rattle.job_output.specs.JobOutput.{fromWriter, profileAnswer, profileOutput}
+use Rattle.job_output.specs.JobOutput.{ProfileOf, fromWriter, profileAnswer, profileOutput}
+use Rattle.job_output.specs.declared.JobProfile.{JobProfile}
 use borrow.Author.Needs.{needs}
 use Rattle.job_output.proofs.profile.Statement.{statement}
 use Rattle.job_output.proofs.profile.Tie as tie
+
+-- the same promise of an answer that was found to be another form of it
+of-found : {a b : EntryAnswer} {before after : List ℕ} {r : JobProfile} → a ≡ b → ProfileOf (λ p. p) b before after r → ProfileOf (λ p. p) a before after r
+of-found {a} {b} {before} e h =
+    record {
+      answer = h .answer ∙ sym (ap (λ (x : EntryAnswer). profileAnswer x (length before)) e);
+      output = h .output ∙ sym (ap (λ (x : EntryAnswer). profileOutput x before) e);
+    }
 
 entry-requires : tie.Need-entry-requires
 entry-requires c κs = search needs
@@ -16,63 +27,31 @@ enum-known-entry c = search needs
 maybe-create-profile-requires : tie.Need-maybe-create-profile-requires
 maybe-create-profile-requires c κs = search needs
 
-enum-known-n : tie.Need-enum-known-n
-enum-known-n c = search needs
-
-enum-known-k : tie.Need-enum-known-k
-enum-known-k c = search needs
+from-writer-requires : tie.Need-from-writer-requires
+from-writer-requires c κs = search needs
 
 enum-told : tie.Need-enum-told
 enum-told c = search needs
 
-enum-known-k-2 : tie.Need-enum-known-k-2
-enum-known-k-2 c = search needs
+enum-known-k : tie.Need-enum-known-k
+enum-known-k c = search needs
 
 same-length : tie.Need-same-length
 same-length c = search needs
 
 returns : tie.Need-returns
 returns c =
-    let start = c .before .before .before .before .before .before .before .before .before .before .before .before .before .args in
-    let out = start .out .now in
-    let found = sym (c .before .before .before .before .before .before .before .before .before .before .entry .ensures) ∙ c .before .before .before .before .before .before .before .before .entry2 .given .1 in
-    let call = c .before .before .before .before .before .maybe-create-profile .ensures in
-    record {
-      answer = sym (ap (λ (a : EntryAnswer). profileAnswer a (length out)) found ∙ ap fromWriter (sym (call .answer) ∙ c .before .n .given .1));
-      output = call .output ∙ sym (ap (λ (a : EntryAnswer). profileOutput a out) found);
-    }
-
-same-length-2 : tie.Need-same-length-2
-same-length-2 c = search needs
+    let call = c .before .before .before .maybe-create-profile .ensures .writes in
+    of-found (sym (c .before .before .before .before .before .before .before .before .entry .ensures) ∙ c .before .before .before .before .before .before .entry2 .given .1)
+    (record { answer = c .from-writer .ensures ∙ ap fromWriter (call .answer); output = call .output })
 
 returns-2 : tie.Need-returns-2
 returns-2 c =
-    let start = c .before .before .before .before .before .before .before .before .before .before .before .before .before .args in
-    let out = start .out .now in
-    let found = sym (c .before .before .before .before .before .before .before .before .before .before .entry .ensures) ∙ c .before .before .before .before .before .before .before .before .entry2 .given .1 in
-    let call = c .before .before .before .before .before .maybe-create-profile .ensures in
-    record {
-      answer = sym (ap (λ (a : EntryAnswer). profileAnswer a (length out)) found ∙ ap fromWriter (sym (call .answer) ∙ c .before .k .given .1));
-      output = call .output ∙ sym (ap (λ (a : EntryAnswer). profileOutput a out) found);
-    }
+    of-found (sym (c .before .before .entry .ensures) ∙ c .enum-told .given .1) (record { answer = refl; output = refl })
 
 returns-3 : tie.Need-returns-3
 returns-3 c =
-    let start = c .before .before .before .before .before .args in
-    let found = sym (c .before .before .entry .ensures) ∙ c .enum-told .given .1 in
-    record {
-      answer = sym (ap (λ (a : EntryAnswer). profileAnswer a (length (start .out .now))) found);
-      output = sym (ap (λ (a : EntryAnswer). profileOutput a (start .out .now)) found);
-    }
-
-returns-4 : tie.Need-returns-4
-returns-4 c =
-    let start = c .before .before .before .before .before .before .args in
-    let found = sym (c .before .before .before .entry .ensures) ∙ c .before .k2 .given .1 in
-    record {
-      answer = sym (ap (λ (a : EntryAnswer). profileAnswer a (length (start .out .now))) found);
-      output = sym (ap (λ (a : EntryAnswer). profileOutput a (start .out .now)) found);
-    }
+    of-found (sym (c .before .before .before .entry .ensures) ∙ c .before .k .given .1) (record { answer = refl; output = refl })
 
 pub profile-spec : {M : Type 1} → statement M
 profile-spec =
@@ -81,13 +60,10 @@ profile-spec =
     entry-requires
     enum-known-entry
     maybe-create-profile-requires
-    enum-known-n
-    enum-known-k
+    from-writer-requires
     enum-told
-    enum-known-k-2
+    enum-known-k
     same-length
     returns
-    same-length-2
     returns-2
-    returns-3
-    returns-4)
+    returns-3)
