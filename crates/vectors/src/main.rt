@@ -1,6 +1,7 @@
 // Replays the fixed list on standard input and counts, for each type of record, how many were tried and how many were matched. Each profile
 // that was written is read back too. Then tries the examples of 01 that are run.
 // The list holds the Rust's own answers and RFC 1321's vectors; differential/README.md says how it was made and what a record holds.
+use color_encoding::EncodingCode;
 use color_encoding::IntentCode;
 use color_encoding::JxlColorEncoding;
 use color_encoding::JxlPrimaries;
@@ -14,10 +15,10 @@ use color_encoding::WhitePointCode;
 use color_encoding::WhiteXy;
 use colorimetry::Adaptation;
 use colorimetry::Conversion;
-use colorimetry::WhiteXyz;
 use libc::STDIN_FILENO;
 use libc::STDOUT_FILENO;
 use numbers::S15Fixed16;
+use white_point::WhiteXyz;
 use writer::Profile;
 ghost use Prim.Native.Nat.{_≤_};
 
@@ -228,12 +229,15 @@ fn decimals(line: &[u8]) -> bool {
     n as u64 == number(line, 8, 2) && spells(line, 10, &bytes, n)
 }
 
+// Whether eight digits are the bits of a float.
+fn is_float(line: &[u8], at: usize, x: f32) -> bool {
+    numbers::f32_to_bits(x) == word(line, at)
+}
+
 fn row_holds(line: &[u8], at: usize, row: [f32; 3]) -> bool
     requires { ⌜ at ≤ 1000 ⌝ }
 {
-    numbers::f32_to_bits(row[0]) == word(line, at)
-        && numbers::f32_to_bits(row[1]) == word(line, at + 8)
-        && numbers::f32_to_bits(row[2]) == word(line, at + 16)
+    is_float(line, at, row[0]) && is_float(line, at + 8, row[1]) && is_float(line, at + 16, row[2])
 }
 
 // Whether nine words from `at` on are the bits of a matrix, row by row.
@@ -265,23 +269,33 @@ fn primaries(line: &[u8], at: usize) -> PrimariesXy
     }
 }
 
+// What a call answered, by 01's numbers; 0 where it refused nothing.
+fn adaptation_number(answer: Adaptation) -> u64 {
+    match answer {
+        Adaptation::Adapted => 0,
+        Adaptation::InvalidWhitePoint => 4,
+    }
+}
+
+fn conversion_number(answer: Conversion) -> u64 {
+    match answer {
+        Conversion::Converted => 0,
+        Conversion::InvalidWhitePoint => 4,
+        Conversion::MatrixInversionFailed => 6,
+    }
+}
+
+// A matrix that is refused stays zero, and stands as zeros in the record.
 fn adapted(line: &[u8]) -> bool {
     let mut m = [[0.0f32; 3]; 3];
-    let status = number(line, 16, 1);
-    match colorimetry::chad_matrix(white(line, 0), &mut m) {
-        Adaptation::Adapted => status == 0 && holds(line, 17, m),
-        Adaptation::InvalidWhitePoint => status == 4,
-    }
+    let answer = colorimetry::chad_matrix(white(line, 0), &mut m);
+    adaptation_number(answer) == number(line, 16, 1) && holds(line, 17, m)
 }
 
 fn converted(line: &[u8]) -> bool {
     let mut m = [[0.0f32; 3]; 3];
-    let status = number(line, 137, 1);
-    match colorimetry::create_icc_rgb_matrix(primaries(line, 89), white(line, 0), &mut m) {
-        Conversion::Converted => status == 0 && holds(line, 138, m),
-        Conversion::InvalidWhitePoint => status == 4,
-        Conversion::MatrixInversionFailed => status == 6,
-    }
+    let answer = colorimetry::create_icc_rgb_matrix(primaries(line, 89), white(line, 0), &mut m);
+    conversion_number(answer) == number(line, 137, 1) && holds(line, 138, m)
 }
 
 // c: a white's adaptation to D50, and the RGB matrix of primaries under it.
@@ -292,13 +306,8 @@ fn columns(line: &[u8]) -> bool {
 // g: the XYZ of a gray white.
 fn gray_white(line: &[u8]) -> bool {
     let status = number(line, 16, 1);
-    match colorimetry::cie_xyz_from_white_cie_xy(white(line, 0)) {
-        WhiteXyz::Xyz { x, y, z } => {
-            status == 0
-                && numbers::f32_to_bits(x) == word(line, 17)
-                && numbers::f32_to_bits(y) == word(line, 25)
-                && numbers::f32_to_bits(z) == word(line, 33)
-        }
+    match white_point::cie_xyz_from_white_cie_xy(white(line, 0)) {
+        WhiteXyz::Xyz { x, y, z } => status == 0 && row_holds(line, 17, [x, y, z]),
         WhiteXyz::InvalidWhitePointY => status == 3,
     }
 }
@@ -307,113 +316,129 @@ fn one_digit(line: &[u8], at: usize) -> u32 {
     (number(line, at, 1) % 16) as u32
 }
 
-// e: an encoding: its profile or refusal, and its description.
-fn encoding(line: &[u8]) -> bool {
-    let kind = one_digit(line, 0);
+// The codes of an encoding.
+fn white_code(line: &[u8]) -> WhitePointCode {
+    JxlWhitePoint::from_number(one_digit(line, 1), float(line, 2), float(line, 10))
+}
+
+fn primaries_code(line: &[u8]) -> PrimariesCode {
     let c = primaries(line, 19);
-    let WhitePointCode::Known(w) = JxlWhitePoint::from_number(
-        one_digit(line, 1),
-        float(line, 2),
-        float(line, 10),
-    ) else {
-        return false;
-    };
-    let PrimariesCode::Known(p) = JxlPrimaries::from_number(
-        one_digit(line, 18),
-        c.rx,
-        c.ry,
-        c.gx,
-        c.gy,
-        c.bx,
-        c.by,
-    ) else {
-        return false;
-    };
-    let TransferFunctionCode::Known(t) = JxlTransferFunction::from_number(
-        one_digit(line, 67),
-        float(line, 68),
-    ) else {
-        return false;
-    };
-    let IntentCode::Known(i) = RenderingIntent::from_number(one_digit(line, 76)) else {
-        return false;
-    };
-    if kind == 1 {
-        return answered(
-            line,
-            JxlColorEncoding::GrayscaleColorSpace {
-                white_point: w,
-                transfer_function: t,
-                rendering_intent: i,
-            },
-        );
-    }
-    if kind == 2 {
-        return answered(
-            line,
-            JxlColorEncoding::RgbColorSpace {
-                white_point: w,
-                primaries: p,
-                transfer_function: t,
-                rendering_intent: i,
-            },
-        );
-    }
-    answered(
-        line,
-        JxlColorEncoding::XYB {
-            rendering_intent: i,
-        },
+    JxlPrimaries::from_number(one_digit(line, 18), c.rx, c.ry, c.gx, c.gy, c.bx, c.by)
+}
+
+fn curve_code(line: &[u8]) -> TransferFunctionCode {
+    JxlTransferFunction::from_number(one_digit(line, 67), float(line, 68))
+}
+
+fn intent_code(line: &[u8]) -> IntentCode {
+    RenderingIntent::from_number(one_digit(line, 76))
+}
+
+fn rgb_code(line: &[u8]) -> EncodingCode {
+    encoding_codes::rgb_from_codes(
+        white_code(line),
+        primaries_code(line),
+        curve_code(line),
+        intent_code(line),
     )
 }
 
-fn answered(line: &[u8], e: JxlColorEncoding) -> bool {
-    described(line, e) && written(line, e)
+fn encoding_code(line: &[u8]) -> EncodingCode {
+    match one_digit(line, 0) {
+        1 => encoding_codes::gray_from_codes(white_code(line), curve_code(line), intent_code(line)),
+        2 => rgb_code(line),
+        _ => encoding_codes::xyb_from_code(intent_code(line)),
+    }
+}
+
+// e: an encoding: its profile or refusal, and its description.
+fn encoding(line: &[u8]) -> bool {
+    match encoding_code(line) {
+        EncodingCode::Known(e) => described(line, e) && written(line, e),
+        EncodingCode::Unknown => false,
+    }
 }
 
 // What the reader answers with one byte of the profile changed.
-fn changed(profile: [u8; 1300], n: usize, at: usize) -> u32 {
-    if 1300 < n {
+fn changed(profile: &mut [u8], at: usize) -> u32 {
+    if profile.len() <= at {
         return 0;
     }
-    if n <= at {
-        return 0;
-    }
-    let mut other = profile;
-    other[at] = other[at] ^ 255;
-    let answer = reader::read(&other[..n]);
+    let byte = profile[at];
+    profile[at] = byte ^ 255;
+    let answer = reader::read(profile);
+    profile[at] = byte;
     answer.refusal
 }
 
-// The profile is read back as one of its kind, and is refused with a change in its size, header, intent, tag table, first element or id.
-fn read_back(kind: u32, profile: [u8; 1300], n: usize) -> bool {
-    if 1300 < n {
+// Where the k-th change is made: in the size, header, intent, tag table, first element or id.
+fn place(k: u32, first: usize) -> usize {
+    match k {
+        0 => 3,
+        1 => 20,
+        2 => 67,
+        3 => 143,
+        4 => first,
+        _ => 99,
+    }
+}
+
+// Whether each change is refused by its number, 22 to 26 and 28.
+fn refuses_changes(profile: &mut [u8], first: usize) -> bool {
+    for k in 0..6 {
+        let number = if k < 5 { 22 + k } else { 28 };
+        if changed(&mut *profile, place(k, first)) != number {
+            return false;
+        }
+    }
+    true
+}
+
+// The profile is read back as one of its kind, and is refused with a change.
+fn read_back(kind: u32, profile: &mut [u8]) -> bool {
+    let answer = reader::read(profile);
+    if answer.refusal != 0 || answer.kind != kind {
         return false;
     }
-    let answer = reader::read(&profile[..n]);
-    if answer.refusal != 0 {
-        return false;
+    let tags = (buffer::byte_at(profile, 131) % 16) as usize;
+    refuses_changes(profile, 132 + 12 * tags)
+}
+
+// The writer's answer is held as one number: a length as it is, a refusal above REFUSED.
+const REFUSED: u32 = 1000000;
+
+// That number, from one of a record or of 01: no profile is shorter than 100 bytes, and no refusal number is greater.
+fn told(n: u32) -> u32 {
+    if n < 100 { REFUSED + n } else { n }
+}
+
+fn answer(e: JxlColorEncoding, out: &mut [u8]) -> u32 {
+    match writer::maybe_create_profile(e, out) {
+        Profile::Written(n) => n,
+        Profile::Refused(refusal) => std::num::wrapping_add_u32(REFUSED, refusal),
     }
-    let first = 132 + 12 * ((profile[131] % 16) as usize);
-    answer.kind == kind
-        && changed(profile, n, 3) == 22
-        && changed(profile, n, 20) == 23
-        && changed(profile, n, 67) == 24
-        && changed(profile, n, 143) == 25
-        && changed(profile, n, first) == 26
-        && changed(profile, n, 99) == 28
 }
 
 // The length of the profile and its MD5, or the refusal. What is written is read back.
 fn written(line: &[u8], e: JxlColorEncoding) -> bool {
-    let mut out = [0u8; 1300];
-    match writer::maybe_create_profile(e, &mut out) {
-        Profile::Written(n) => {
-            n as u64 == number(line, 77, 4)
-                && digest_spelled(line, 81, &out, n as usize)
-                && read_back(one_digit(line, 0), out, n as usize)
-        }
-        Profile::Refused(refusal) => refusal as u64 == number(line, 77, 4),
+    let mut space = [0u8; 1300];
+    let out: &mut [u8] = &mut space;
+    let n = answer(e, &mut *out);
+    if n != told((number(line, 77, 4) % 65536) as u32) {
+        return false;
+    }
+    if REFUSED <= n {
+        return true;
+    }
+    let profile = front(out, n as usize);
+    digest_spelled(line, 81, profile, n as usize) && read_back(one_digit(line, 0), profile)
+}
+
+fn front(s: &mut [u8], n: usize) -> &mut [u8] {
+    if n <= s.len() {
+        &mut s[0..n]
+    } else {
+        &mut s[0..0]
     }
 }
 
@@ -426,23 +451,10 @@ fn described(line: &[u8], e: JxlColorEncoding) -> bool {
 
 // ---- the examples of 01 ("Sheets to try") that are run and not proved
 
-// What the writer answers for an output of `room` bytes: the length or the refusal.
-fn answer(e: JxlColorEncoding, room: usize) -> u32 {
-    let mut space = [0u8; 1300];
-    let out: &mut [u8] = &mut space;
-    if out.len() < room {
-        return 0;
-    }
-    match writer::maybe_create_profile(e, &mut out[..room]) {
-        Profile::Written(n) => n,
-        Profile::Refused(number) => number,
-    }
-}
-
-fn gray(white_point: JxlWhitePoint, transfer_function: JxlTransferFunction) -> JxlColorEncoding {
+fn gray(wx: f32, wy: f32) -> JxlColorEncoding {
     JxlColorEncoding::GrayscaleColorSpace {
-        white_point,
-        transfer_function,
+        white_point: JxlWhitePoint::Chromaticity { wx, wy },
+        transfer_function: JxlTransferFunction::SRGB,
         rendering_intent: RenderingIntent::Perceptual,
     }
 }
@@ -490,131 +502,149 @@ fn red_for_green() -> JxlColorEncoding {
     rgb(JxlWhitePoint::D65, twice, JxlTransferFunction::SRGB)
 }
 
-fn count(ok: bool) -> u64 {
-    if ok { 1 } else { 0 }
+fn infinite_gamma() -> JxlColorEncoding {
+    with_gamma(numbers::f32_from_bits(0x7f80_0000))
 }
 
-// An infinite gamma has the number 0, and its text ends in ginf.
-fn infinite_gamma() -> bool {
-    let infinity = numbers::f32_from_bits(0x7f80_0000);
-    let text = text::get_color_encoding_description(with_gamma(infinity));
+// The word that the last four of n bytes make.
+fn last_word(bytes: &[u8], n: usize) -> u32 {
+    words::read_u32_be(bytes, std::num::wrapping_sub_usize(n, 4))
+}
+
+// The text of an infinite gamma ends in ginf.
+fn infinite_text() -> bool {
+    let text = text::get_color_encoding_description(infinite_gamma());
     let n = text.len;
     let bytes = text.bytes;
-    let letters: &[u8] = &bytes;
-    if letters.len() < n {
-        return false;
+    last_word(&bytes, n) == 0x6769_6e66
+}
+
+// Its number is 0: the curve is the last element, and its number the last four bytes.
+fn infinite_number() -> bool {
+    let mut out = [0u8; 1300];
+    let n = answer(infinite_gamma(), &mut out);
+    100 < n && n < REFUSED && last_word(&out, n as usize) == 0
+}
+
+fn example(i: usize) -> JxlColorEncoding {
+    match i {
+        0 => with_white(0.0, 1.0),
+        1 => gray(0.3, 0.0),
+        2 => with_white(0.3, 0.0),
+        3 => gray(0.0, 1e-12),
+        4 => red_for_green(),
+        5 => with_gamma(0.0),
+        6 => with_gamma(1.0 / 32768.0),
+        _ => rgb(
+            JxlWhitePoint::D65,
+            JxlPrimaries::SRGB,
+            JxlTransferFunction::SRGB,
+        ),
     }
-    if n < 4 {
-        return false;
+}
+
+// The length or the refusal of each.
+fn expected(i: usize) -> u32 {
+    match i {
+        0 => 544,
+        1 => 3,
+        2 => 4,
+        3 => 7,
+        4 => 6,
+        5 | 6 => 8,
+        _ => 9,
     }
-    let ends = letters[n - 4] == b'g'
-        && letters[n - 3] == b'i'
-        && letters[n - 2] == b'n'
-        && letters[n - 1] == b'f';
+}
+
+// Whether an example is answered as 01 says; the last into an output that is one byte too short.
+fn example_holds(i: usize) -> bool {
     let mut space = [0u8; 1300];
-    let out: &mut [u8] = &mut space;
-    match writer::maybe_create_profile(with_gamma(infinity), &mut *out) {
-        Profile::Written(length) => {
-            // The curve is the last element, and its number the last four bytes.
-            let m = length as usize;
-            if m < 4 {
-                return false;
-            }
-            ends && numbers::read_u32_be(out, m - 4) == 0
-        }
-        Profile::Refused(_) => false,
-    }
+    let room = if i < 7 { 1300 } else { 503 };
+    answer(example(i), front(&mut space, room)) == told(expected(i))
 }
 
 // How many of the nine hold.
 fn holding() -> u64 {
-    let white = count(answer(with_white(0.0, 1.0), 1300) == 544);
-    let gray_zero = count(
-        answer(
-            gray(
-                JxlWhitePoint::Chromaticity { wx: 0.3, wy: 0.0 },
-                JxlTransferFunction::SRGB,
-            ),
-            1300,
-        )
-            == 3,
-    );
-    let rgb_zero = count(answer(with_white(0.3, 0.0), 1300) == 4);
-    let gray_small = count(
-        answer(
-            gray(
-                JxlWhitePoint::Chromaticity { wx: 0.0, wy: 1e-12 },
-                JxlTransferFunction::SRGB,
-            ),
-            1300,
-        )
-            == 7,
-    );
-    let singular = count(answer(red_for_green(), 1300) == 6);
-    let gamma_zero = count(answer(with_gamma(0.0), 1300) == 8);
-    let gamma_small = count(answer(with_gamma(1.0 / 32768.0), 1300) == 8);
-    let infinite = count(infinite_gamma());
-    let short = count(
-        answer(
-            rgb(
-                JxlWhitePoint::D65,
-                JxlPrimaries::SRGB,
-                JxlTransferFunction::SRGB,
-            ),
-            503,
-        )
-            == 9,
-    );
-    let first = white % 2 + gray_zero % 2 + rgb_zero % 2 + gray_small % 2;
-    let second = singular % 2 + gamma_zero % 2 + gamma_small % 2 + infinite % 2 + short % 2;
-    first + second
+    let mut n = 0u64;
+    for i in 0..8 {
+        if example_holds(i) {
+            n = std::num::wrapping_add_u64(n, 1);
+        }
+    }
+    if infinite_text() && infinite_number() {
+        n = std::num::wrapping_add_u64(n, 1);
+    }
+    n
 }
 
 // ---- the program
 
-// The types of records, in the order of the list.
-const TYPES: [u8; 8] = *b"mbfntcge";
-
 // More records than the list can hold: the bound that ends the loop.
 const MOST: usize = 1000000;
 
-fn print_tally(letter: u8, tried: u64, matched: u64) {
-    let name = [letter, b' '];
-    io::write_all(STDOUT_FILENO, &name);
-    io::print_decimal(STDOUT_FILENO, matched);
-    io::write_all(STDOUT_FILENO, b" of ");
-    io::print_decimal(STDOUT_FILENO, tried);
-    io::write_all(STDOUT_FILENO, b"\n");
+// The places of a tally, in the order in which they are printed: for each type of record how many were matched and how many were tried; the
+// examples that hold; the first record that was not matched.
+const EXAMPLES: usize = 16;
+
+const FIRST: usize = 17;
+
+const PLACES: usize = 18;
+
+fn mark(tally: &mut [u64; PLACES], at: usize) {
+    if at < PLACES {
+        tally[at] = std::num::wrapping_add_u64(tally[at], 1);
+    }
 }
 
-fn print_examples() {
-    io::write_all(STDOUT_FILENO, b"examples ");
-    io::print_decimal(STDOUT_FILENO, holding());
-    io::write_all(STDOUT_FILENO, b" of 9\n");
+fn count(tally: &mut [u64; PLACES], kind: usize, ok: bool, record: usize)
+    requires { ⌜ kind ≤ 8 ⌝ }
+{
+    mark(&mut *tally, kind * 2 + 1);
+    if ok {
+        mark(tally, kind * 2);
+    } else if tally[FIRST] == 0 {
+        tally[FIRST] = record as u64;
+    }
+}
+
+// Goes over the list.
+fn replay(tally: &mut [u64; PLACES]) {
+    let mut line = [0u8; 256];
+    for i in 0..MOST {
+        let kind = next(&mut line);
+        if 8 <= kind {
+            return;
+        }
+        count(&mut *tally, kind, matches(kind, &line), i + 1);
+    }
+}
+
+fn print_number(tally: &[u64; PLACES], at: usize) {
+    if at < PLACES {
+        io::print_decimal(STDOUT_FILENO, tally[at]);
+    }
+}
+
+// Prints a text, with the next number of the tally for each #.
+fn print_tally(text: &[u8], tally: &[u64; PLACES]) {
+    let mut k = 0usize;
+    for i in 0..text.len() {
+        if text[i] == b'#' {
+            print_number(tally, k);
+            k = std::num::wrapping_add_usize(k, 1);
+        } else {
+            let letter = [text[i]];
+            io::write_all(STDOUT_FILENO, &letter);
+        }
+    }
 }
 
 fn main() {
-    let types = TYPES;
-    let mut tried = [0u64; 8];
-    let mut matched = [0u64; 8];
-    let mut line = [0u8; 256];
-    let mut i = 0usize;
-    while i < MOST {
-        let kind = next(&mut line);
-        if kind < 8 {
-            tried[kind] = std::num::wrapping_add_u64(tried[kind], 1);
-            if matches(kind, &line) {
-                matched[kind] = std::num::wrapping_add_u64(matched[kind], 1);
-            }
-            i += 1;
-        } else {
-            i = MOST;
-        }
-    }
-    let mut k = 0usize;
-    while k < 8 {
-        print_tally(types[k], tried[k], matched[k]);
-        k += 1;
-    }
-    print_examples();
+    let mut tally = [0u64; PLACES];
+    replay(&mut tally);
+    tally[EXAMPLES] = holding();
+    print_tally(
+        b"m # of #\nb # of #\nf # of #\nn # of #\nt # of #\nc # of #\ng # of #\ne # of #\nexamples # of 9\nfirst record that differs #\n",
+        &tally,
+    );
 }
