@@ -8,6 +8,7 @@ use judge::inputs::{Random, encodings, job_cases};
 use judge::jobs::{self, Answer};
 use judge::list::hex;
 
+use crate::progress::Progress;
 use crate::{Run, Written, port};
 
 /// From this many jobs on, each answer must have occurred.
@@ -18,11 +19,12 @@ const ASKED: usize = 3;
 
 pub fn jobs(run: &mut Run) {
     let mut random = Random::new(run.seed);
-    let boundary = encodings::boundary();
+    let boundary = encodings::compared_boundary();
     let source = Source::new(&boundary);
     let mut cases = job_cases::cases(&mut random, &boundary).into_iter();
     let mut met = Met::default();
-    for _ in 0..run.count {
+    let mut progress = Progress::new("jobs", run.count);
+    for tried in 0..run.count {
         let job = cases.next().unwrap_or_else(|| source.job(&mut random));
         let answer = jobs::answer(&job);
         met.add(&answer);
@@ -37,6 +39,7 @@ pub fn jobs(run: &mut Run) {
         if run.differences <= 3 {
             trial.print();
         }
+        progress.at(tried + 1, run.differences);
     }
     println!(
         "jobs: {} inputs, {} differences ({met})",

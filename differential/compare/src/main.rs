@@ -1,21 +1,27 @@
 //! Tries the port against the original on many inputs.
 //!
-//!   compare leaves|writer|jobs COUNT [SEED]
-//!   compare bench
-//!
-//! Each leaf, the writer, or the calls on jobs are tried on COUNT inputs: the boundary cases first,
-//! then random ones that follow from the seed. Prints a line for each and fails if one answer
-//! differs. `bench` times the writer beside the original.
+//! Each leaf, `validate_icc_matrix`, the writer, the calls on jobs, or the reader are tried on
+//! COUNT inputs: the boundary cases first, then random ones that follow from the seed. Prints a
+//! line for each and fails if one answer differs. `bench` times the writer beside the original.
 
 mod jobs;
 mod port;
+mod progress;
+mod reader;
 
 use std::fmt::Debug;
 use std::hint::black_box;
+use std::process::ExitCode;
 
 use judge::encoding::Encoding;
 use judge::inputs::{Random, encodings, floats, pieces};
 use judge::{answer, bench, leaves};
+use progress::Progress;
+
+const USAGE: &str = "\
+compare leaves|validate|writer|jobs|reader COUNT [SEED]
+compare profiles FOLDER
+compare bench";
 
 /// Inputs are made in parts, so that they fit into memory.
 const PART: usize = 1_000_000;
@@ -29,12 +35,13 @@ struct Run {
 impl Run {
     fn leaf<I: Debug, A: PartialEq + Debug>(
         &mut self,
-        name: &str,
+        name: &'static str,
         mut inputs: impl FnMut(&mut Random, usize) -> Vec<I>,
         original: impl Fn(&I) -> A,
         port: impl Fn(&I) -> A,
     ) {
         let mut random = Random::new(self.seed);
+        let mut progress = Progress::new(name, self.count);
         let mut tried = 0;
         let mut different = 0;
         while tried < self.count {
@@ -47,6 +54,7 @@ impl Run {
                         println!("{name} of {input:x?}: expected {expected:x?}, found {found:x?}");
                     }
                 }
+                progress.at(tried, different);
             }
         }
         println!("{name}: {tried} inputs, {different} differences");
@@ -62,6 +70,12 @@ fn messages(random: &mut Random, count: usize) -> Vec<Vec<u8>> {
 }
 
 fn leaves(run: &mut Run) {
+    numbers_and_text(run);
+    colours(run);
+    validate(run);
+}
+
+fn numbers_and_text(run: &mut Run) {
     run.leaf(
         "fixed number",
         floats::fixed,
@@ -87,6 +101,15 @@ fn leaves(run: &mut Run) {
         |m| port::md5(m),
     );
     run.leaf(
+        "description",
+        encodings::compared,
+        |e| answer::description(e).into_bytes(),
+        port::description,
+    );
+}
+
+fn colours(run: &mut Run) {
+    run.leaf(
         "linear algebra",
         pieces::matrices,
         |(a, b)| leaves::linalg(*a, *b),
@@ -94,13 +117,13 @@ fn leaves(run: &mut Run) {
     );
     run.leaf(
         "adaptation",
-        pieces::colours,
+        pieces::compared_colours,
         |c| leaves::adaptation(c.wx, c.wy),
         |c| port::adaptation(c.wx, c.wy),
     );
     run.leaf(
         "columns",
-        pieces::colours,
+        pieces::compared_colours,
         |c| leaves::columns(c.wx, c.wy, c.xy),
         |c| port::columns(c.wx, c.wy, c.xy),
     );
@@ -110,11 +133,14 @@ fn leaves(run: &mut Run) {
         |(wx, wy)| leaves::gray_white(*wx, *wy),
         |(wx, wy)| port::gray_white(*wx, *wy),
     );
+}
+
+fn validate(run: &mut Run) {
     run.leaf(
-        "description",
-        encodings::encodings,
-        |e| answer::description(e).into_bytes(),
-        port::description,
+        "validate_icc_matrix",
+        encodings::compared,
+        leaves::validation,
+        port::validation,
     );
 }
 
@@ -152,7 +178,7 @@ impl Written {
 
 /// Encodings, each with an output of 1,300 bytes or, one in eight, of any length up to 800.
 fn calls(random: &mut Random, count: usize) -> Vec<(Encoding, usize)> {
-    let encodings = encodings::encodings(random, count);
+    let encodings = encodings::compared(random, count);
     let mut room = || match random.below(8) {
         0 => random.below(801) as usize,
         _ => 1300,
@@ -197,26 +223,76 @@ fn bench() {
     }
 }
 
-fn main() {
-    let mut words = std::env::args().skip(1);
-    let what = words.next().unwrap_or_default();
-    let mut number = || words.next().and_then(|word| word.parse::<u64>().ok());
-    let mut run = Run {
-        count: number().unwrap_or(PART as u64) as usize,
-        seed: number().unwrap_or(1),
-        differences: 0,
-    };
-    match what.as_str() {
-        "leaves" => leaves(&mut run),
-        "writer" => writer(&mut run),
-        "jobs" => jobs::jobs(&mut run),
-        "bench" => bench(),
-        _ => {
-            eprintln!("compare leaves|writer|jobs COUNT [SEED], or compare bench");
-            std::process::exit(2);
+/// What the words of the command line ask for.
+enum Asked {
+    Try(fn(&mut Run), Run),
+    Profiles(String),
+    Bench,
+}
+
+impl Asked {
+    fn of(words: &[&str]) -> Result<Self, String> {
+        let (what, rest) = words.split_first().ok_or("a word is missing")?;
+        let tried: fn(&mut Run) = match (*what, rest) {
+            ("bench", []) => return Ok(Self::Bench),
+            ("profiles", [folder]) => return Ok(Self::Profiles(folder.to_string())),
+            ("leaves", _) => leaves,
+            ("validate", _) => validate,
+            ("writer", _) => writer,
+            ("jobs", _) => jobs::jobs,
+            ("reader", _) => reader::reader,
+            _ => return Err(format!("not known: {}", words.join(" "))),
+        };
+        let (count, seed) = match rest {
+            [count] => (*count, "1"),
+            [count, seed] => (*count, *seed),
+            _ => return Err("COUNT and perhaps SEED are needed".to_string()),
+        };
+        let count = count.parse().ok().filter(|count| *count > 0);
+        let run = Run {
+            count: count.ok_or("COUNT is a number above 0")?,
+            seed: seed.parse().map_err(|_| "SEED is a number")?,
+            differences: 0,
+        };
+        Ok(Self::Try(tried, run))
+    }
+
+    /// The number of differences.
+    fn run(self) -> Result<usize, String> {
+        match self {
+            Self::Try(tried, mut run) => {
+                tried(&mut run);
+                Ok(run.differences)
+            }
+            Self::Profiles(folder) => {
+                let mut run = Run {
+                    count: 0,
+                    seed: 1,
+                    differences: 0,
+                };
+                reader::folder(&mut run, folder.as_ref())?;
+                Ok(run.differences)
+            }
+            Self::Bench => {
+                bench();
+                Ok(0)
+            }
         }
     }
-    if run.differences > 0 {
-        std::process::exit(1);
+}
+
+fn main() -> ExitCode {
+    let words: Vec<String> = std::env::args().skip(1).collect();
+    let words: Vec<&str> = words.iter().map(String::as_str).collect();
+    match Asked::of(&words)
+        .map_err(|why| format!("{why}\n{USAGE}"))
+        .and_then(Asked::run)
+    {
+        Ok(0) => ExitCode::SUCCESS,
+        Ok(_) => ExitCode::FAILURE,
+        Err(why) => {
+            eprintln!("{why}");
+            ExitCode::from(2)
+        }
     }
 }

@@ -1,7 +1,9 @@
-//! The port, through its static libraries: the leaves, and the writer and jobs by its C entries.
+//! The port, through its static libraries: leaves, jobs and reader by the comparison's own entries, the writer by the port's.
 
 use judge::encoding::{Encoding, GRAY, RGB};
 use judge::leaves::{Linalg, Numbers, double_bits};
+
+use crate::reader::Reading;
 
 mod entries {
     unsafe extern "C" {
@@ -42,6 +44,42 @@ mod entries {
             out: *mut u8,
             len: usize,
         ) -> u32;
+        #[allow(clippy::too_many_arguments)]
+        pub fn leaf_validate(
+            kind: u32,
+            white: u32,
+            wx: u32,
+            wy: u32,
+            primaries: u32,
+            rx: u32,
+            ry: u32,
+            gx: u32,
+            gy: u32,
+            bx: u32,
+            by: u32,
+            curve: u32,
+            gamma: u32,
+            intent: u32,
+        ) -> u32;
+        #[allow(clippy::too_many_arguments)]
+        pub fn leaf_read(
+            file: *const u8,
+            file_len: usize,
+            codes: *mut u32,
+            free: *mut i32,
+            chad: *mut i32,
+            columns: *mut i32,
+            text: *mut u8,
+        ) -> usize;
+        pub fn leaf_find(
+            file: *const u8,
+            file_len: usize,
+            a: u8,
+            b: u8,
+            c: u8,
+            d: u8,
+            found: *mut super::Part,
+        );
         pub fn leaf_listing(job: *const u8, job_len: usize, out: *mut u8, len: usize) -> usize;
         pub fn leaf_listing_length(job: *const u8, job_len: usize) -> usize;
         pub fn leaf_profiles(job: *const u8, job_len: usize, out: *mut u8, len: usize) -> usize;
@@ -95,6 +133,13 @@ mod entries {
             len: usize,
         ) -> usize;
     }
+}
+
+/// A slice as the port writes it.
+#[repr(C)]
+pub struct Part {
+    at: *const u8,
+    len: usize,
 }
 
 pub fn fixed(bits: u32) -> Option<i32> {
@@ -185,6 +230,65 @@ pub fn description(encoding: &Encoding) -> Vec<u8> {
             len,
         )
     })
+}
+
+/// `validate_icc_matrix`: 0 or a number.
+pub fn validation(encoding: &Encoding) -> u32 {
+    let (white, primaries, curve) = (encoding.white, encoding.primaries, encoding.curve);
+    let [rx, ry, gx, gy, bx, by] = primaries.xy;
+    unsafe {
+        entries::leaf_validate(
+            encoding.kind.into(),
+            white.kind.into(),
+            white.wx,
+            white.wy,
+            primaries.kind.into(),
+            rx,
+            ry,
+            gx,
+            gy,
+            bx,
+            by,
+            curve.kind.into(),
+            curve.gamma,
+            encoding.intent.into(),
+        )
+    }
+}
+
+/// The reader's answer. The fields are filled before, so that one that is not written shows.
+pub fn read(file: &[u8]) -> Reading {
+    let mut reading = Reading {
+        codes: [0xa5; 5],
+        free: [0xa5; 3],
+        chad: [0xa5; 9],
+        columns: [0xa5; 9],
+        letters: 0,
+        text: [0xa5; 372],
+    };
+    reading.letters = unsafe {
+        entries::leaf_read(
+            file.as_ptr(),
+            file.len(),
+            reading.codes.as_mut_ptr(),
+            reading.free.as_mut_ptr(),
+            reading.chad.as_mut_ptr(),
+            reading.columns.as_mut_ptr(),
+            reading.text.as_mut_ptr(),
+        )
+    };
+    reading
+}
+
+/// The finder: where its part stands, seen from the front of the file, and its length.
+pub fn find(file: &[u8], [a, b, c, d]: [u8; 4]) -> (isize, usize) {
+    let mut found = Part {
+        at: file.as_ptr().wrapping_add(file.len()),
+        len: 0,
+    };
+    unsafe { entries::leaf_find(file.as_ptr(), file.len(), a, b, c, d, &mut found) };
+    let place = (found.at as isize).wrapping_sub(file.as_ptr() as isize);
+    (place, found.len)
 }
 
 /// The writer: a length, or a refusal number below 100.

@@ -4,6 +4,8 @@ use jxl::api::color::{self, JxlTransferFunction, open};
 use jxl::error::Error;
 use jxl::util::{inv_3x3_matrix, mul_3x3_matrix, mul_3x3_vector};
 
+use crate::encoding::Encoding;
+
 /// Every NaN is written as this one: which NaN an operation gives is left to the machine.
 const NAN: u32 = 0x7fc0_0000;
 
@@ -50,6 +52,23 @@ pub fn md5(bytes: &[u8]) -> [u8; 16] {
 pub fn adaptation(wx: u32, wy: u32) -> Numbers<9> {
     let matrix = open::adapt_to_xyz_d50(f32::from_bits(wx), f32::from_bits(wy));
     numbers(matrix.map(|rows| rows.map(|row| row.map(|value| value as f32))))
+}
+
+/// `validate_icc_matrix`: 0, or the writer's number for its error; 5 stands for every number that
+/// does not fit.
+///
+/// # Panics
+/// If a number of the encoding has no meaning.
+pub fn validation(encoding: &Encoding) -> u32 {
+    let original = encoding.original().expect("a number has no meaning");
+    match original.validate_icc_matrix() {
+        Ok(()) => 0,
+        Err(Error::IccInvalidWhitePointY(_)) => 3,
+        Err(Error::IccInvalidWhitePoint(..)) => 4,
+        Err(Error::IccValueOutOfRangeS15Fixed16(_)) => 5,
+        Err(Error::MatrixInversionFailed(_)) => 6,
+        Err(error) => panic!("{encoding:?} meets {error:?}"),
+    }
 }
 
 /// `create_icc_rgb_matrix`; row by row.

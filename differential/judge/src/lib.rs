@@ -10,3 +10,5 @@ pub mod job_list;
 pub mod jobs;
 pub mod leaves;
 pub mod list;
+pub mod profiles;
+pub mod reader;

@@ -5,7 +5,7 @@ use std::process::ExitCode;
 
 use judge::encoding::{Curve, Encoding, Primaries, White};
 use judge::list::{self, Input, hex};
-use judge::{answer, bench, examples, job_list, jobs, leaves};
+use judge::{answer, bench, examples, job_list, jobs, leaves, reader};
 
 const USAGE: &str = "\
 judge profile ENCODING [ROOM]  the profile, or the refusal; ROOM is the output's length
@@ -18,6 +18,7 @@ judge list [SEED]              writes the fixed list
 judge check < LIST             tries a list, line by line
 judge job < JOB                the listing of a job
 judge job-list [SEED]          writes the list of jobs
+judge read < PROFILE           the plan of a profile, or the refusal
 judge bench                    times the four kinds of profile
 
 ENCODING is one of
@@ -63,6 +64,7 @@ fn run(command: &str, mut words: Words) -> Result<bool, String> {
         "list" => write_list(words.number_or(list::SEED)?)?,
         "check" => return check_list(),
         "job" => show_listing()?,
+        "read" => show_plan()?,
         "job-list" => print!("{}", job_list::text(words.number_or(list::SEED)?)),
         "bench" => {
             for (name, nanoseconds) in bench::original() {
@@ -134,11 +136,23 @@ fn check_list() -> Result<bool, String> {
     Ok(kinds.iter().all(|(_, good, all)| good == all))
 }
 
-fn show_listing() -> Result<(), String> {
-    let mut job = Vec::new();
-    let read = std::io::stdin().lock().read_to_end(&mut job);
+fn input() -> Result<Vec<u8>, String> {
+    let mut bytes = Vec::new();
+    let read = std::io::stdin().lock().read_to_end(&mut bytes);
     read.map_err(|error| error.to_string())?;
-    print!("{}", jobs::listing(&jobs::answer(&job)));
+    Ok(bytes)
+}
+
+fn show_listing() -> Result<(), String> {
+    print!("{}", jobs::listing(&jobs::answer(&input()?)));
+    Ok(())
+}
+
+fn show_plan() -> Result<(), String> {
+    match reader::read(&input()?) {
+        Ok(plan) => println!("{plan:#?}"),
+        Err(refusal) => println!("refused {refusal}"),
+    }
     Ok(())
 }
 

@@ -194,6 +194,20 @@ pub fn low_cancelling_whites() -> Vec<Xy> {
     whites
 }
 
+/// One more of these at random, with a wx above a half: there 1 - wx - wy and 1 - wy - wx are not
+/// rounded alike.
+pub fn low_cancelling_white(random: &mut Random) -> Xy {
+    let (at, low, high) = random.pick(&[(2, 0.55, 0.7), (5, 0.7, 0.8)]);
+    let wy = random.sized(-45, -26).abs();
+    let negative = |wx: f32| {
+        let chad = leaves::adaptation(wx.to_bits(), wy.to_bits());
+        chad.bits[at] >> 31 == 1
+    };
+    let side = negative(low);
+    let changes = edge(low, high, |wx| negative(wx) == side);
+    (random.pick(&changes), wy)
+}
+
 /// A white with a tiny wy, for which 1 - wx - wy is rounded, half way between two primaries, so
 /// that the rounding shows.
 pub fn low_white(random: &mut Random) -> (Xy, [f32; 6]) {
@@ -309,4 +323,53 @@ pub fn far_primaries(random: &mut Random) -> [f32; 6] {
         }
     }
     xy
+}
+
+/// Primaries on one line through the white, far out. Their determinant is nothing but the rounding
+/// of the steps that lead to it, yet mostly above the limit; and since the white lies on the line,
+/// the columns are rounding too, and many fit. So the order of each step shows in them.
+pub fn on_one_line(random: &mut Random) -> (Xy, [f32; 6]) {
+    if random.percent(20) {
+        return near_one_line(random);
+    }
+    // Where the rounding cancels out the determinant is zero; so a few are drawn.
+    let mut drawn = on_a_grid(random);
+    for _ in 0..4 {
+        let ((wx, wy), xy) = drawn;
+        let answer = leaves::columns(wx.to_bits(), wy.to_bits(), xy.map(f32::to_bits));
+        if answer.status != 6 {
+            break;
+        }
+        drawn = on_a_grid(random);
+    }
+    drawn
+}
+
+/// All coordinates are whole numbers of 1 / grid, below two to the 24: the floats lie on the line
+/// exactly. On a grid this fine the determinant takes more than 53 bits to compute.
+fn on_a_grid(random: &mut Random) -> (Xy, [f32; 6]) {
+    let grid = 1i32 << (10 + random.below(7));
+    let white = [0; 2].map(|_| 1 + random.below(grid as u32 - 1) as i32);
+    let steep = 1u32 << random.below(7);
+    let direction = [0; 2].map(|_| (1 + random.below(steep) as i32) * random.pick(&[1, -1]));
+    let reach = (1u32 << 23) / steep;
+    let mut point = || {
+        let far = random.below(2 * reach) as i32 - reach as i32;
+        [0, 1].map(|at| (white[at] + far * direction[at]) as f32 / grid as f32)
+    };
+    let [[rx, ry], [gx, gy], [bx, by]] = [point(), point(), point()];
+    let [wx, wy] = white.map(|c| c as f32 / grid as f32);
+    ((wx, wy), [rx, ry, gx, gy, bx, by])
+}
+
+/// The same for any white, each coordinate rounded to a float.
+fn near_one_line(random: &mut Random) -> (Xy, [f32; 6]) {
+    let white = white(random);
+    let (u, v) = (random.between(-1.0, 1.0), random.between(-1.0, 1.0));
+    let mut point = || {
+        let far = random.sized(-2, 14);
+        [white.0 + far * u, white.1 + far * v]
+    };
+    let [[rx, ry], [gx, gy], [bx, by]] = [point(), point(), point()];
+    (white, [rx, ry, gx, gy, bx, by])
 }

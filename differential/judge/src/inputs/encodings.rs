@@ -16,6 +16,34 @@ pub fn encodings(random: &mut Random, count: usize) -> Vec<Encoding> {
     super::filled(boundary(), count, || encoding(random))
 }
 
+/// What the comparisons are tried with: the same, and primaries on one line. The fixed list and the
+/// list of jobs are made without these, so that they stay as they are.
+pub fn compared(random: &mut Random, count: usize) -> Vec<Encoding> {
+    super::filled(compared_boundary(), count, || any(random))
+}
+
+/// The boundary encodings of the comparisons.
+pub fn compared_boundary() -> Vec<Encoding> {
+    let mut random = Random::new(0);
+    let mut all = boundary();
+    all.extend((0..200).map(|_| on_one_line(&mut random)));
+    all
+}
+
+/// One encoding of the comparisons at random.
+pub fn any(random: &mut Random) -> Encoding {
+    match random.below(10) {
+        0 => on_one_line(random),
+        _ => encoding(random),
+    }
+}
+
+fn on_one_line(random: &mut Random) -> Encoding {
+    let ((wx, wy), xy) = colours::on_one_line(random);
+    let (curve, intent) = (curve(random), random.below(4) as u8);
+    Encoding::rgb(White::own(wx, wy), Primaries::own(xy), curve, intent)
+}
+
 /// Every branch and both sides of every boundary.
 pub fn boundary() -> Vec<Encoding> {
     let mut all = named();

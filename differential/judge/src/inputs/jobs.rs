@@ -1,8 +1,8 @@
 //! Jobs at random: good ones, and damaged ones.
 
-use super::encodings;
 use super::floats::NANS;
 use super::random::Random;
+use super::{below, byte, encodings};
 use crate::encoding::{Curve, Encoding, GAMMA, OWN, Primaries, RGB, White, XYB};
 use crate::jobs::SECTIONS;
 
@@ -101,14 +101,6 @@ impl Job {
             *byte = value;
         }
     }
-}
-
-fn byte(random: &mut Random) -> u8 {
-    random.bits32() as u8
-}
-
-fn below(random: &mut Random, limit: usize) -> usize {
-    random.below(limit as u32) as usize
 }
 
 /// Where the entries of random jobs are drawn from.

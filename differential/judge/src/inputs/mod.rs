@@ -2,11 +2,14 @@
 //! inputs. All of it follows from the seed.
 
 pub mod colours;
+pub mod damage;
 pub mod encodings;
 pub mod floats;
 pub mod job_cases;
 pub mod jobs;
 pub mod pieces;
+pub mod plans;
+pub mod profile_cases;
 pub mod random;
 
 use std::collections::HashSet;
@@ -32,4 +35,12 @@ pub fn filled<T: Clone + Eq + Hash>(
         }
     }
     all
+}
+
+fn byte(random: &mut Random) -> u8 {
+    random.bits32() as u8
+}
+
+fn below(random: &mut Random, limit: usize) -> usize {
+    random.below(limit as u32) as usize
 }

@@ -56,6 +56,21 @@ pub fn colours(random: &mut Random, count: usize) -> Vec<Colours> {
     })
 }
 
+/// Those of the comparisons: one in ten has its primaries on one line, one in fifty a white at
+/// which a number of `chad` cancels out and the order in 1 - wx - wy shows.
+pub fn compared_colours(random: &mut Random, count: usize) -> Vec<Colours> {
+    let mut all = colours(random, count - count / 10 - count / 50);
+    all.extend((0..count / 10).map(|_| {
+        let (white, xy) = colours::on_one_line(random);
+        Colours::new(white, xy)
+    }));
+    all.extend((0..count / 50).map(|at| {
+        let white = colours::low_cancelling_white(random);
+        Colours::new(white, colours::named_primaries()[at % 3])
+    }));
+    all
+}
+
 /// Whites for gray.
 pub fn gray_whites(random: &mut Random, count: usize) -> Vec<(u32, u32)> {
     let mut first = Vec::new();

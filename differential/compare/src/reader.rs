@@ -1,0 +1,223 @@
+//! The reader and the finder against the judge's own, which goes by 01's words.
+
+use std::fmt::{Display, Formatter, Result as Printed};
+use std::path::Path;
+
+use judge::encoding::{GRAY, RGB, XYB};
+use judge::inputs::{Random, damage, plans, profile_cases};
+use judge::list::hex;
+use judge::profiles::{self, Sheet, set_id, set_size};
+use judge::reader::{self, Plan};
+
+use crate::progress::Progress;
+use crate::{Run, port};
+
+/// From this many files on, each answer must have occurred.
+const ENOUGH: usize = 100_000;
+
+/// Every tag of the layout, then some that no profile has.
+const SIGNATURES: [&[u8; 4]; 21] = [
+    b"desc",
+    b"cprt",
+    b"wtpt",
+    b"chad",
+    b"cicp",
+    b"rXYZ",
+    b"gXYZ",
+    b"bXYZ",
+    b"rTRC",
+    b"gTRC",
+    b"bTRC",
+    b"kTRC",
+    b"A2B0",
+    b"B2A0",
+    b"\0\0\0\0",
+    b"DESC",
+    b"csed",
+    b"A2B1",
+    b"mluc",
+    b"XYZ ",
+    b"acsp",
+];
+
+/// The reader's answer as the port gives it.
+#[derive(Clone, Debug, PartialEq, Eq)]
+pub struct Reading {
+    /// Refusal, kind, intent, curve and `cicp`.
+    pub codes: [u32; 5],
+    /// Gamma, and X and Z of a gray white.
+    pub free: [i32; 3],
+    pub chad: [i32; 9],
+    pub columns: [i32; 9],
+    pub letters: usize,
+    pub text: [u8; 372],
+}
+
+impl Reading {
+    /// The answer that is due: of a refused file all is zero but the number.
+    fn due(answer: &Result<Plan, u32>) -> Self {
+        let none = Plan::default();
+        let plan = answer.as_ref().unwrap_or(&none);
+        let refusal = *answer.as_ref().err().unwrap_or(&0);
+        let mut text = [0; 372];
+        text[..plan.text.len()].copy_from_slice(&plan.text);
+        let [kind, curve, cicp] = [plan.kind, plan.curve, plan.cicp].map(u32::from);
+        Self {
+            codes: [refusal, kind, plan.intent, curve, cicp],
+            free: [plan.gamma, plan.white[0], plan.white[1]],
+            chad: plan.chad,
+            columns: plan.columns,
+            letters: plan.text.len(),
+            text,
+        }
+    }
+}
+
+/// Tries the cases and random files in turn, then random files only.
+pub fn reader(run: &mut Run) {
+    let mut random = Random::new(run.seed);
+    let mut cases = profile_cases::cases(&mut random).into_iter();
+    let mut met = Met::default();
+    let mut progress = Progress::new("reader", run.count);
+    for tried in 0..run.count {
+        let case = if tried % 2 == 0 { cases.next() } else { None };
+        let file = case.unwrap_or_else(|| damage::file(&mut random));
+        trial(run, &file, &mut met);
+        progress.at(tried + 1, run.differences);
+    }
+    let left = cases.count();
+    if left > 0 {
+        println!("reader: {left} of the cases were not tried, COUNT is too small for them");
+    }
+    println!(
+        "reader: {} files, {} differences ({met})",
+        run.count, run.differences
+    );
+    if run.count >= ENOUGH && met.0.contains(&0) {
+        println!("reader: an answer never occurred");
+        run.differences += 1;
+    }
+}
+
+/// The profiles of a folder, as they are and with each header that the layout has.
+pub fn folder(run: &mut Run, folder: &Path) -> Result<(), String> {
+    let mut random = Random::new(run.seed);
+    let mut met = Met::default();
+    let mut files = 0;
+    let entries = std::fs::read_dir(folder).map_err(|error| error.to_string())?;
+    for entry in entries {
+        let path = entry.map_err(|error| error.to_string())?.path();
+        let profile = path
+            .extension()
+            .is_some_and(|end| end == "icc" || end == "icm");
+        if !profile {
+            continue;
+        }
+        let bytes = std::fs::read(&path).map_err(|error| format!("{}: {error}", path.display()))?;
+        files += 1;
+        trial(run, &bytes, &mut met);
+        for file in with_our_headers(&bytes, &mut random) {
+            trial(run, &file, &mut met);
+        }
+    }
+    let differences = run.differences;
+    println!("reader: {files} profiles of the folder, {differences} differences ({met})");
+    if files == 0 {
+        return Err(format!("no .icc or .icm file in {}", folder.display()));
+    }
+    Ok(())
+}
+
+/// A profile of another maker under each of our headers, so that its table is looked at; and
+/// its front under the table of a plan.
+fn with_our_headers(bytes: &[u8], random: &mut Random) -> Vec<Vec<u8>> {
+    let mut all = Vec::new();
+    for kind in [GRAY, RGB, XYB] {
+        let mut file = bytes.to_vec();
+        if file.len() >= 128 {
+            file[..128].copy_from_slice(profiles::header(kind));
+        }
+        set_size(&mut file);
+        set_id(&mut file);
+        all.push(file);
+        // Of its elements the table of a plan makes others.
+        let plan = plans::of_shape(random, kind, 8, false, kind == RGB);
+        let mut file = Sheet::of(&plan).bytes();
+        let table = 132 + 12 * usize::from(file[131]);
+        let count = (file.len() - table).min(bytes.len().saturating_sub(table));
+        file[table..table + count].copy_from_slice(&bytes[bytes.len() - count..]);
+        set_id(&mut file);
+        all.push(file);
+    }
+    all
+}
+
+/// One file: the reader's whole answer, and the finder's.
+fn trial(run: &mut Run, file: &[u8], met: &mut Met) {
+    let answer = reader::read(file);
+    met.add(&answer);
+    if let Ok(plan) = &answer {
+        let laid_out = Sheet::of(plan).bytes();
+        assert!(
+            laid_out == file,
+            "the judge: {plan:?} is not the plan of {}",
+            hex(file)
+        );
+    }
+    let mut differences = Vec::new();
+    let (expected, found) = (Reading::due(&answer), port::read(file));
+    if expected != found {
+        differences.push(format!("read: expected {expected:?}, found {found:?}"));
+    }
+    for signature in asked(file, answer.is_ok()) {
+        // 01 leaves open where an empty part lies; the port's is at the front of the file.
+        let part = reader::place(file, answer.is_ok(), signature);
+        let expected = part.map_or((0, 0), |(place, length)| (place as isize, length));
+        let found = port::find(file, signature);
+        if expected != found {
+            let name = String::from_utf8_lossy(&signature).into_owned();
+            differences.push(format!(
+                "find {name:?}: expected {expected:?}, found {found:?}"
+            ));
+        }
+    }
+    run.differences += usize::from(!differences.is_empty());
+    if run.differences <= 3 {
+        for difference in &differences {
+            println!("file {}\n{difference}", hex(file));
+        }
+    }
+}
+
+/// The signatures to ask for: of an accepted file all, of a refused one three that its table may
+/// have.
+fn asked(file: &[u8], accepted: bool) -> Vec<[u8; 4]> {
+    if accepted {
+        return SIGNATURES.iter().map(|signature| **signature).collect();
+    }
+    let first = file
+        .get(132..136)
+        .map(|bytes| bytes.try_into().expect("four bytes"));
+    [*b"cprt", *b"rTRC"].into_iter().chain(first).collect()
+}
+
+/// How many files were accepted, and refused by 21 to 28.
+#[derive(Default)]
+struct Met([u64; 9]);
+
+impl Met {
+    fn add(&mut self, answer: &Result<Plan, u32>) {
+        let number = *answer.as_ref().err().unwrap_or(&20) as usize - 20;
+        self.0[number] += 1;
+    }
+}
+
+impl Display for Met {
+    fn fmt(&self, f: &mut Formatter<'_>) -> Printed {
+        write!(f, "{} accepted", self.0[0])?;
+        for (number, times) in (21..).zip(&self.0[1..]) {
+            write!(f, ", {times} refused {number}")?;
+        }
+        Ok(())
+    }
+}

@@ -1,0 +1,212 @@
+//! Damaged profiles in order: every byte, every length, every field of one profile of each shape.
+
+use super::damage::{get, length_fields, put, zero_id};
+use super::plans::{self, ENDS, NAMED, PRIMARIES};
+use super::random::Random;
+use crate::encoding::{Encoding, GAMMA, GRAY, RGB, White, XYB};
+use crate::inputs::encodings::SRGB;
+use crate::profiles::{self, Sheet, cicp, set_id, set_size};
+use crate::reader::Plan;
+use crate::{answer, reader};
+
+/// Kind, gamma and `cicp` of every shape but XYB's.
+const SHAPES: [(u8, bool, bool); 5] = [
+    (GRAY, false, false),
+    (GRAY, true, false),
+    (RGB, false, false),
+    (RGB, false, true),
+    (RGB, true, false),
+];
+
+/// All cases. Numbers and texts follow from the seed.
+pub fn cases(random: &mut Random) -> Vec<Vec<u8>> {
+    let mut files = Vec::new();
+    for (plan, letters) in bases(random) {
+        let file = Sheet::of(&plan).bytes();
+        files.push(file.clone());
+        every_byte(&file, &mut files);
+        every_length(&file, &mut files);
+        length_fields_changed(&file, &mut files);
+        lines_exchanged(&file, &mut files);
+        headers(&file, &mut files);
+        if letters > 0 {
+            text_lengths(random, &plan, &mut files);
+            free_numbers(&plan, &mut files);
+        }
+        transfers(&plan, &mut files);
+    }
+    files
+}
+
+/// A plan of each shape, and its letters (0 for XYB); and the plan of sRGB as it is written.
+fn bases(random: &mut Random) -> Vec<(Plan, usize)> {
+    let mut all = Vec::new();
+    for (letters, (kind, gamma, cicp)) in (1..).zip(SHAPES) {
+        let plan = plans::of_shape(random, kind, letters, gamma, cicp);
+        all.push((plan, letters));
+    }
+    let xyb = plans::of_shape(random, XYB, 0, false, false);
+    all.push((xyb, 0));
+    let srgb = Encoding::rgb(White::named(0), Default::default(), SRGB, 0);
+    let written = answer::profile(&srgb).expect("accepted");
+    let plan = reader::read(&written).expect("accepted");
+    let letters = plan.text.len();
+    all.push((plan, letters));
+    all
+}
+
+/// The file with its old id, and with the one that is due.
+fn with_both_ids(mut file: Vec<u8>, files: &mut Vec<Vec<u8>>) {
+    files.push(file.clone());
+    set_id(&mut file);
+    files.push(file);
+}
+
+fn every_byte(file: &[u8], files: &mut Vec<Vec<u8>>) {
+    for at in 0..file.len() {
+        let old = file[at];
+        for value in [old.wrapping_add(1), old ^ 0x80, 255 - old] {
+            let mut changed = file.to_vec();
+            changed[at] = value;
+            with_both_ids(changed, files);
+        }
+    }
+}
+
+/// Every early end, and up to 12 bytes too many; the size field follows or not.
+fn every_length(file: &[u8], files: &mut Vec<Vec<u8>>) {
+    for length in 0..=file.len() + 12 {
+        let mut changed = file.to_vec();
+        changed.resize(length, 0);
+        files.push(changed.clone());
+        set_size(&mut changed);
+        with_both_ids(changed, files);
+    }
+}
+
+fn length_fields_changed(file: &[u8], files: &mut Vec<Vec<u8>>) {
+    for at in length_fields(file) {
+        let old = get(file, at).expect("inside");
+        let all = [1, 2, 3, 4, 8, 12, 1 << 8, 1 << 16, 1 << 24, 1 << 31];
+        let near = all
+            .iter()
+            .flat_map(|by| [old.wrapping_add(*by), old.wrapping_sub(*by)]);
+        for value in near.chain([0, file.len() as u32, u32::MAX]) {
+            let mut changed = file.to_vec();
+            put(&mut changed, at, value);
+            with_both_ids(changed, files);
+        }
+    }
+}
+
+/// Every two lines of the table exchanged: whole, and their signatures, offsets and sizes.
+fn lines_exchanged(file: &[u8], files: &mut Vec<Vec<u8>>) {
+    let lines = get(file, 128).expect("inside") as usize;
+    for (a, b) in (0..lines).flat_map(|b| (0..b).map(move |a| (a, b))) {
+        for part in [0..12, 0..4, 4..8, 8..12] {
+            let mut changed = file.to_vec();
+            for at in part {
+                changed.swap(132 + 12 * a + at, 132 + 12 * b + at);
+            }
+            set_id(&mut changed);
+            files.push(changed);
+        }
+    }
+}
+
+/// Intents, classes and spaces, and ids that are zero.
+fn headers(file: &[u8], files: &mut Vec<Vec<u8>>) {
+    for intent in [
+        0,
+        1,
+        2,
+        3,
+        4,
+        5,
+        255,
+        256,
+        1 << 16,
+        1 << 24,
+        1 << 31,
+        u32::MAX,
+    ] {
+        let mut changed = file.to_vec();
+        put(&mut changed, 64, intent);
+        with_both_ids(changed, files);
+    }
+    for class in [b"mntr", b"scnr", b"prtr", b"spac"] {
+        for space in [b"GRAY", b"RGB ", b"CMYK", b"Lab "] {
+            let mut changed = file.to_vec();
+            changed[12..16].copy_from_slice(class);
+            changed[16..20].copy_from_slice(space);
+            with_both_ids(changed, files);
+        }
+    }
+    let mut changed = file.to_vec();
+    zero_id(&mut changed);
+    files.push(changed);
+}
+
+/// Texts of 0 to 374 letters with all that follows from their length; and a letter past 127.
+fn text_lengths(random: &mut Random, plan: &Plan, files: &mut Vec<Vec<u8>>) {
+    for letters in 0..=374 {
+        let mut other = plan.clone();
+        other.text = plans::text(random, letters);
+        files.push(Sheet::of(&other).bytes());
+        let mut sheet = Sheet::of(&other);
+        let mut text: Vec<u16> = other.text.iter().copied().map(u16::from).collect();
+        if let Some(last) = text.last_mut() {
+            *last = random.pick(&[127, 128, 255, 256, 0x100 + *last]);
+            sheet.tags[0].element = Some(profiles::text(&text));
+            files.push(sheet.bytes());
+        }
+    }
+}
+
+/// Each free number at the ends of its range and of 32 bits.
+fn free_numbers(plan: &Plan, files: &mut Vec<Vec<u8>>) {
+    for value in ENDS.into_iter().chain([0, -1]) {
+        let mut add = |change: &dyn Fn(&mut Plan)| {
+            let mut other = plan.clone();
+            change(&mut other);
+            files.push(Sheet::of(&other).bytes());
+        };
+        if plan.curve == GAMMA {
+            add(&|other| other.gamma = value);
+        }
+        match plan.kind {
+            GRAY => (0..2).for_each(|at| add(&|other| other.white[at] = value)),
+            _ => (0..9).for_each(|at| {
+                add(&|other| other.chad[at] = value);
+                add(&|other| other.columns[at] = value);
+            }),
+        }
+    }
+}
+
+/// `cicp` with every primaries value and every transfer value, beside every curve.
+fn transfers(plan: &Plan, files: &mut Vec<Vec<u8>>) {
+    let with = |plan: &Plan, primaries: u8, transfer: u8| {
+        let mut sheet = Sheet::of(&Plan {
+            cicp: 0,
+            ..plan.clone()
+        });
+        let place = sheet.tags.len().min(4);
+        sheet.tags.insert(place, cicp(primaries, transfer));
+        sheet.bytes()
+    };
+    if plan.kind != RGB {
+        files.extend(PRIMARIES.map(|primaries| with(plan, primaries, 13)));
+        return;
+    }
+    for curve in NAMED.into_iter().chain([GAMMA]) {
+        let plan = Plan {
+            curve,
+            ..plan.clone()
+        };
+        for value in 0..=255 {
+            files.push(with(&plan, value, profiles::transfer(curve)));
+            files.push(with(&plan, PRIMARIES[usize::from(value) % 4], value));
+        }
+    }
+}
