@@ -7,63 +7,32 @@ use mathlib.Core.Logic.{_↔_}
 use mathlib.Core.Bool.{true}
 use native.Mathlib.Nat.{le-trans}
 use lib.ListN.{length}
-use lib.IntN.{ℤ}
-use lib.Ieee.{Float}
 use Rattle.buffer.specs.Checked.{Checked, is, refused}
 use Rattle.buffer.specs.CheckedLaws.{Passes}
-use Rattle.floats.specs.Binary32.{_⊘_, one}
-use Rattle.numbers.specs.Fixed.{s15Fixed16}
-use Rattle.numbers.specs.declared.fixed.S15Fixed16.the-variants.{Number}
 use Rattle.color_encoding.specs.declared.RenderingIntent.the-variants.{Perceptual}
-use Rattle.color_encoding.specs.declared.JxlTransferFunction.{JxlTransferFunction}
 use Rattle.color_encoding.specs.declared.JxlTransferFunction.the-variants as F
 use Rattle.color_encoding.specs.declared.JxlColorEncoding.{JxlColorEncoding}
 use Rattle.color_encoding.specs.declared.JxlColorEncoding.the-variants.{RgbColorSpace, GrayscaleColorSpace, XYB}
 use Rattle.text.specs.Held.{HeldEncoding}
-use Rattle.profile.specs.Plan.{Plan}
 use Rattle.profile.specs.Layout.{layout}
 use Rattle.encoding_plan.specs.PlanOf.{planOf}
 use Rattle.validate.specs.Validate.{inRange, standsFor, validation, validateIccMatrix}
 use Rattle.validate.specs.declared.Validation.the-variants.{Valid}
 use Rattle.writer.specs.Writer.{answer, maxWritten}
 use Rattle.writer.specs.declared.Profile.the-variants.{Written, Refused}
+use Rattle.writer_laws.specs.RefusalList.{Ok1, Ok2, Ok8, Ok9}
 use Rattle.writer_laws.specs.WrittenLength.{written-length}
 use Rattle.demands.specs.Demand2Laws.{valid-if, named, has-plan, has-room, written, gray-planned, gray-plan-if, gray-refused, rgb-planned, rgb-plan-if, rgb-refused, perceptual-if, xyb-valid, xyb-plan-if, xyb-refused}
 
--- ---- the conditions
-
--- the curve is neither PQ nor HLG; XYB has none
-abbrev NeitherPqNorHlg : JxlTransferFunction → Type 0
-NeitherPqNorHlg t = (t ≡ F.PQ → ⊥) × (t ≡ F.HLG → ⊥)
-
-abbrev pub NotHdr : JxlColorEncoding → Type 0
-NotHdr (RgbColorSpace w p t i) = NeitherPqNorHlg t
-NotHdr (GrayscaleColorSpace w t i) = NeitherPqNorHlg t
-NotHdr (XYB i) = Unit {0}
-
--- where the curve is a gamma g, 1 / g, divided in f32, has a fixed number
-abbrev ReciprocalFits : JxlTransferFunction → Type 0
-ReciprocalFits t = (g : Float) → t ≡ F.Gamma g → (z : ℤ) × (s15Fixed16 (one ⊘ g) ≡ Number z)
-
-abbrev pub GammaFits : JxlColorEncoding → Type 0
-GammaFits (RgbColorSpace w p t i) = ReciprocalFits t
-GammaFits (GrayscaleColorSpace w t i) = ReciprocalFits t
-GammaFits (XYB i) = Unit {0}
-
--- XYB has the intent Perceptual
-abbrev pub PerceptualXyb : JxlColorEncoding → Type 0
-PerceptualXyb (RgbColorSpace w p t i) = Unit {0}
-PerceptualXyb (GrayscaleColorSpace w t i) = Unit {0}
-PerceptualXyb (XYB i) = i ≡ Perceptual
+-- ---- the conditions; those that the refusal list names too are its own: 1, that the curve is neither PQ nor HLG, and 9, that the output is not shorter than
+-- the profile, among them
 
 pub record Acceptable (e : JxlColorEncoding) : Type 0 where
   pub matrix : validateIccMatrix e ≡ Valid
-  pub gamma : GammaFits e
-  pub intent : PerceptualXyb e
-
--- an output of n bytes is not shorter than the profile
-abbrev pub Enough : JxlColorEncoding → ℕ → Type 0
-Enough e n = (p : Plan) → planOf e ≡ is p → length (layout p) ≤ n
+  -- where the curve is a gamma g, 1 / g, divided in f32, has a fixed number
+  pub gamma : Ok8 e
+  -- XYB has the intent Perceptual
+  pub intent : Ok2 e
 
 -- what `maybe_create_profile` answers for an output of n bytes is a length
 pub record Succeeds (e : JxlColorEncoding) (n : ℕ) : Type 0 where
@@ -78,7 +47,7 @@ pub record RefusesAsNamed (e : JxlColorEncoding) (n : ℕ) : Type 0 where
 
 -- ---- the theorems
 
-pub succeeds-exactly-if : (e : JxlColorEncoding) → NotHdr e → (n : ℕ) → Succeeds e n ↔ (Acceptable e × Enough e n)
+pub succeeds-exactly-if : (e : JxlColorEncoding) → Ok1 e → (n : ℕ) → Succeeds e n ↔ (Acceptable e × Ok9 e n)
 succeeds-exactly-if e h n = (λ s. (acceptable e (has-plan e n (s .answers)), has-room e n (s .answers)), λ a. succeeds (plan e h (a .0)) (a .1))
   where
     acceptable : (e : JxlColorEncoding) → Passes (planOf e) → Acceptable e
@@ -86,22 +55,22 @@ succeeds-exactly-if e h n = (λ s. (acceptable e (has-plan e n (s .answers)), ha
     acceptable (RgbColorSpace w q t i) p = let a = rgb-planned w q t i (p .given) in record { matrix = ap validation (a .0); gamma = a .1; intent = tt }
     acceptable (XYB i) p = record { matrix = xyb-valid i; gamma = tt; intent = perceptual-if i (p .given) }
 
-    plan : (e : JxlColorEncoding) → NotHdr e → Acceptable e → Passes (planOf e)
+    plan : (e : JxlColorEncoding) → Ok1 e → Acceptable e → Passes (planOf e)
     plan (GrayscaleColorSpace w t i) h a = gray-plan-if w t i h (a .gamma) (valid-if _ (a .matrix))
     plan (RgbColorSpace w q t i) h a = rgb-plan-if w q t i h (a .gamma) (valid-if _ (a .matrix))
     plan (XYB i) h a = xyb-plan-if i (a .intent)
 
-    succeeds : Passes (planOf e) → Enough e n → Succeeds e n
+    succeeds : Passes (planOf e) → Ok9 e n → Succeeds e n
     succeeds p room = record { size = length (layout (p .value)); answers = written e n (p .given) (room (p .value) (p .given)) }
 
 -- the floats of the encoding are binary32 values, as those of the code are
-pub enough-output : (e : JxlColorEncoding) → HeldEncoding e → (n : ℕ) → maxWritten ≤ n → Enough e n
+pub enough-output : (e : JxlColorEncoding) → HeldEncoding e → (n : ℕ) → maxWritten ≤ n → Ok9 e n
 enough-output e held n enough p h = le-trans (written-length e held h .1) enough
 
-pub refuses-as-named : (e : JxlColorEncoding) → NotHdr e → (validateIccMatrix e ≡ Valid → ⊥) → (n : ℕ) → RefusesAsNamed e n
+pub refuses-as-named : (e : JxlColorEncoding) → Ok1 e → (validateIccMatrix e ≡ Valid → ⊥) → (n : ℕ) → RefusesAsNamed e n
 refuses-as-named e h invalid n = go (inRange e) refl
   where
-    refuses : (e : JxlColorEncoding) → NotHdr e → {k : ℕ} → inRange e ≡ refused k → planOf e ≡ refused k
+    refuses : (e : JxlColorEncoding) → Ok1 e → {k : ℕ} → inRange e ≡ refused k → planOf e ≡ refused k
     refuses (GrayscaleColorSpace w t i) h r = gray-refused w t i h r
     refuses (RgbColorSpace w q t i) h r = rgb-refused w q t i h r
     refuses (XYB i) h r = xyb-refused i r

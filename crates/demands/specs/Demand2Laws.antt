@@ -14,9 +14,8 @@ use Rattle.buffer.specs.All.{All, none, more}
 use Rattle.buffer.specs.BoolLaws as Bools
 use Rattle.buffer.specs.Checked.{Checked, is, refused, then, each}
 use Rattle.buffer.specs.CheckedLaws.{Passes, never, both, Refusing, refusing, by-then, by-cond}
-use Rattle.floats.specs.Binary32.{_⊘_, one}
+use Rattle.floats.specs.Binary32.{one}
 use Rattle.numbers.specs.Fixed.{s15Fixed16, fixedOr}
-use Rattle.numbers.specs.FixedLaws.{number-if}
 use Rattle.numbers.specs.declared.fixed.S15Fixed16.{S15Fixed16}
 use Rattle.numbers.specs.declared.fixed.S15Fixed16.the-variants.{Number, OutOfRange}
 use Rattle.linalg.specs.Linalg.{component, rows, columns}
@@ -39,7 +38,6 @@ use Rattle.colorimetry.specs.RefusalLaws.{by-white, by-chad, by-rgb-matrix}
 use Rattle.profile.specs.Plan.{Plan}
 use Rattle.profile.specs.Layout.{layout}
 use Rattle.profile.specs.declared.Curve.{Curve}
-use Rattle.profile.specs.declared.Curve.the-variants.{Gamma}
 use Rattle.encoding_plan.specs.Answers.{reciprocalRefusal}
 use Rattle.encoding_plan.specs.PlanOf.{supported, curveOf, grayNumbers, chadNumbers, columnNumbers, planOf}
 use Rattle.encoding_plan.specs.PlanOfLaws.{gray-plan, rgb-plan}
@@ -49,6 +47,9 @@ use Rattle.validate.specs.Validate.{isS15Fixed16, allS15Fixed16, inRangeOr, whi
 use Rattle.validate.specs.declared.Validation.the-variants.{Valid, InvalidWhitePointY, InvalidWhitePoint, MatrixInversionFailed, ValueOutOfRange}
 use Rattle.writer.specs.Writer.{answer, tooShort}
 use Rattle.writer.specs.declared.Profile.the-variants.{Written, Refused}
+use Rattle.writer_laws.specs.RefusalList.{NeitherPqNorHlg, ReciprocalFits}
+use Rattle.writer_laws.specs.RefusalListLaws.{Decides, passes, refuses}
+use Rattle.writer_laws.specs.WriterAnswersLaws.{supported-decides, curve-decides}
 use Rattle.demands.specs.FixedRangeLaws.{isNumber, fixed-range}
 
 -- ---- whether a check passed, without what it gave
@@ -193,49 +194,32 @@ named e h = refusing Named (by-tests e) h
 
 -- ---- the curve
 
--- where the curve is a gamma, its reciprocal has a fixed number
-abbrev Reciprocal : JxlTransferFunction → Type 0
-Reciprocal t = (g : Float) → t ≡ F.Gamma g → (z : ℤ) × (s15Fixed16 (one ⊘ g) ≡ Number z)
-
 module _ (t : JxlTransferFunction) where
-  reciprocal-if : {s : SupportedCurve} {c : Curve} → supported t ≡ is s → curveOf s ≡ is c → Reciprocal t
-  reciprocal-if {s} {c} h f g e =
-      let gamma : is (Supported.Gamma g) ≡ is s = sym (ap supported e) ∙ h in
-      let same : Supported.Gamma g ≡ s = cc in
-      let a = both (fixedOr reciprocalRefusal (one ⊘ g)) _ (ap curveOf same ∙ f) in
-      (a .value, number-if reciprocalRefusal (one ⊘ g) (a .first))
-
-  supported-if : (t ≡ F.PQ → ⊥) × (t ≡ F.HLG → ⊥) → Passes (supported t)
-  supported-if h = go t refl
+  reciprocal-if : {s : SupportedCurve} {c : Curve} → supported t ≡ is s → curveOf s ≡ is c → ReciprocalFits t
+  reciprocal-if {s} {c} h f = go (curve-decides t s h)
     where
-      go : (u : JxlTransferFunction) → t ≡ u → Passes (supported t)
-      go F.BT709 e = record { value = _; given = ap supported e }
-      go F.Linear e = record { value = _; given = ap supported e }
-      go F.SRGB e = record { value = _; given = ap supported e }
-      go F.DCI e = record { value = _; given = ap supported e }
-      go (F.Gamma g) e = record { value = _; given = ap supported e }
-      go F.PQ e = absurd (h .0 e)
-      go F.HLG e = absurd (h .1 e)
+      go : Decides (ReciprocalFits t) reciprocalRefusal (curveOf s) → ReciprocalFits t
+      go (passes p a e) = p
+      go (refuses n e) = absurd (never (sym e ∙ f))
 
-  curve-if : {s : SupportedCurve} → supported t ≡ is s → Reciprocal t → Passes (curveOf s)
-  curve-if {s} h f = go t refl
+  supported-if : NeitherPqNorHlg t → Passes (supported t)
+  supported-if h = go (supported-decides t)
     where
-      given-by : (n : SupportedCurve) (c : Curve) → is n ≡ is s → curveOf n ≡ is c → Passes (curveOf s)
-      given-by n c e g = let same : n ≡ s = cc in record { value = c; given = ap curveOf (sym same) ∙ g }
+      go : Decides (NeitherPqNorHlg t) 1 (supported t) → Passes (supported t)
+      go (passes p s e) = record { value = s; given = e }
+      go (refuses n e) = absurd (n h)
 
-      go : (u : JxlTransferFunction) → t ≡ u → Passes (curveOf s)
-      go F.BT709 e = given-by _ _ (sym (ap supported e) ∙ h) refl
-      go F.Linear e = given-by _ _ (sym (ap supported e) ∙ h) refl
-      go F.SRGB e = given-by _ _ (sym (ap supported e) ∙ h) refl
-      go F.DCI e = given-by _ _ (sym (ap supported e) ∙ h) refl
-      go (F.Gamma g) e = let z = f g e in given-by (Supported.Gamma g) (Gamma (z .0)) (sym (ap supported e) ∙ h) (simp (z .1))
-      go F.PQ e = absurd (never (sym (ap supported e) ∙ h))
-      go F.HLG e = absurd (never (sym (ap supported e) ∙ h))
+  curve-if : {s : SupportedCurve} → supported t ≡ is s → ReciprocalFits t → Passes (curveOf s)
+  curve-if {s} h f = go (curve-decides t s h)
+    where
+      go : Decides (ReciprocalFits t) reciprocalRefusal (curveOf s) → Passes (curveOf s)
+      go (passes p c e) = record { value = c; given = e }
+      go (refuses n e) = absurd (n f)
 
 -- ---- an encoding has a plan exactly if its numbers are in range and its curve is given, and is refused by the same number
 
 module _ (w : JxlWhitePoint) (t : JxlTransferFunction) (i : RenderingIntent) where
-  pub gray-planned : {p : Plan} → planOf (GrayscaleColorSpace w t i) ≡ is p → (inRange (GrayscaleColorSpace w t i) ≡ is tt) × Reciprocal t
+  pub gray-planned : {p : Plan} → planOf (GrayscaleColorSpace w t i) ≡ is p → (inRange (GrayscaleColorSpace w t i) ≡ is tt) × ReciprocalFits t
   unfolding planOf inRange
   gray-planned e =
       let s = both (supported t) _ e in
@@ -243,8 +227,8 @@ module _ (w : JxlWhitePoint) (t : JxlTransferFunction) (i : RenderingIntent) whe
       let c = both (curveOf (s .value)) _ (n .second) in
       (sym (gray-tested (whiteXy w)) ∙ ap passed (n .first), reciprocal-if t (s .first) (c .first))
 
-  module _ (h : (t ≡ F.PQ → ⊥) × (t ≡ F.HLG → ⊥)) where
-    pub gray-plan-if : Reciprocal t → inRange (GrayscaleColorSpace w t i) ≡ is tt → Passes (planOf (GrayscaleColorSpace w t i))
+  module _ (h : NeitherPqNorHlg t) where
+    pub gray-plan-if : ReciprocalFits t → inRange (GrayscaleColorSpace w t i) ≡ is tt → Passes (planOf (GrayscaleColorSpace w t i))
     unfolding inRange
     gray-plan-if f e =
         let s = supported-if t h in
@@ -257,7 +241,7 @@ module _ (w : JxlWhitePoint) (t : JxlTransferFunction) (i : RenderingIntent) whe
     gray-refused e = rw (supported-if t h .given) (refused-as (grayNumbers (whiteXy w)) (gray-tested (whiteXy w) ∙ e) _)
 
 module _ (w : JxlWhitePoint) (q : JxlPrimaries) (t : JxlTransferFunction) (i : RenderingIntent) where
-  pub rgb-planned : {p : Plan} → planOf (RgbColorSpace w q t i) ≡ is p → (inRange (RgbColorSpace w q t i) ≡ is tt) × Reciprocal t
+  pub rgb-planned : {p : Plan} → planOf (RgbColorSpace w q t i) ≡ is p → (inRange (RgbColorSpace w q t i) ≡ is tt) × ReciprocalFits t
   unfolding planOf inRange
   rgb-planned e =
       let s = both (supported t) _ e in
@@ -266,8 +250,8 @@ module _ (w : JxlWhitePoint) (q : JxlPrimaries) (t : JxlTransferFunction) (i : R
       let c = both (curveOf (s .value)) _ (k .second) in
       (sym (rgb-tested (primariesXy q) (whiteXy w)) ∙ rw (m .first, k .first), reciprocal-if t (s .first) (c .first))
 
-  module _ (h : (t ≡ F.PQ → ⊥) × (t ≡ F.HLG → ⊥)) where
-    pub rgb-plan-if : Reciprocal t → inRange (RgbColorSpace w q t i) ≡ is tt → Passes (planOf (RgbColorSpace w q t i))
+  module _ (h : NeitherPqNorHlg t) where
+    pub rgb-plan-if : ReciprocalFits t → inRange (RgbColorSpace w q t i) ≡ is tt → Passes (planOf (RgbColorSpace w q t i))
     unfolding inRange
     rgb-plan-if f e =
         let columns = columnNumbers (primariesXy q) (whiteXy w) in
@@ -308,23 +292,23 @@ module _ (i : RenderingIntent) where
 
 -- ---- a plan is written exactly if the output has room for it
 
+pub written-not-refused : {k size : ℕ} → Refused k ≡ Written size → ⊥
+written-not-refused e = let z : _≡_ {A = ℕ} 0 1 = cc in omega arith
+
 module _ (e : JxlColorEncoding) (n : ℕ) where
   pub written : {p : Plan} → planOf e ≡ is p → length (layout p) ≤ n → answer (planOf e) n ≡ Written (length (layout p))
   written {p} h room = ap (λ c. answer c n) h ∙ simp (le-leb _ _ room)
-
-  not-written : {k size : ℕ} → Refused k ≡ Written size → ⊥
-  not-written e = let z : _≡_ {A = ℕ} 0 1 = cc in omega arith
 
   pub has-plan : {size : ℕ} → answer (planOf e) n ≡ Written size → Passes (planOf e)
   has-plan w = go (planOf e) refl
     where
       go : (c : Checked Plan) → planOf e ≡ c → Passes (planOf e)
       go (is p) h = record { value = p; given = h }
-      go (refused k) h = absurd (not-written (sym (ap (λ c. answer c n) h) ∙ w))
+      go (refused k) h = absurd (written-not-refused (sym (ap (λ c. answer c n) h) ∙ w))
 
   pub has-room : {size : ℕ} → answer (planOf e) n ≡ Written size → (p : Plan) → planOf e ≡ is p → length (layout p) ≤ n
   has-room {size} w p h = go (leb (length (layout p)) n) refl (sym (ap (λ c. answer c n) h) ∙ w)
     where
       go : (b : Bool) → leb (length (layout p)) n ≡ b → cond b (Written (length (layout p))) (Refused tooShort) ≡ Written size → length (layout p) ≤ n
       go true t g = leb→le (length (layout p)) n (Bools.holds t)
-      go false t g = absurd (not-written g)
+      go false t g = absurd (written-not-refused g)

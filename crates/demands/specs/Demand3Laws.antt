@@ -16,13 +16,14 @@ use Rattle.profile.specs.Shape.{minLength, maxLength}
 use Rattle.profile.specs.Layout.{layout}
 use Rattle.writer.specs.Writer.{answer, output, Writes, tooShort}
 use Rattle.writer.specs.declared.Profile.the-variants.{Written, Refused}
-use Rattle.reader_spec.specs.RefusalList.{Answer, Answers, Check, c21, c22, c23, c24, c25, c26, c27, c28, FirstFailing, checks, refused, accepted, refuses as by-list, number}
+use Rattle.reader_spec.specs.RefusalList.{Answer, Answers, Check, FirstFailing, checks, refused, accepted, refuses as by-list, number}
 use Rattle.reader_spec.specs.Read.{read}
 use Rattle.reader_spec.specs.ReadAnswers.{read-answers, read-is}
 use Rattle.reader_spec.specs.Owners.{Owned}
 use Rattle.reader_spec.specs.Accepts.{accepts-exactly, accepted-owned}
 use Rattle.reading.specs.Reading.{reading}
 use Rattle.reading.specs.declared.Reading.{Reading}
+use Rattle.demands.specs.Demand2Laws.{written-not-refused}
 use Rattle.demands.specs.Told.{told}
 use Rattle.demands.specs.ToldLaws.{checkBy, check-back, number-above, plan-told, refusal-told}
 
@@ -82,9 +83,6 @@ module _ (f : List ℕ) (r : Reading) (h : r ≡ reading (read f)) where
   owned zero = let q = plan-if zero in accepted-owned f (q .0) (q .1)
 
 -- ---- the writer
-
-written-not-refused : {n k : ℕ} → Refused k ≡ Written n → ⊥
-written-not-refused e = let z : _≡_ {A = ℕ} 0 1 = cc in absurd (omega arith)
 
 written-length : {n m : ℕ} → Written m ≡ Written n → m ≡ n
 written-length e = cc

@@ -1,13 +1,13 @@
 -- `told` undoes `reading`: of a plan that the reader answers, and of a refusal. Assumes nothing.
-use Prim.Native.Nat.{ℕ, suc, _-_, _≤_}
-use mathlib.Core.Path.{_≡_, refl, ap, ap₂, sym, _∙_}
+use Prim.Native.Nat.{ℕ, _-_, _≤_}
+use mathlib.Core.Path.{_≡_, refl, ap, ap₂, _∙_}
 use mathlib.Core.Logic.{inl, inr}
 use mathlib.Core.Bool.{cond}
 use mathlib.Core.List.{List}
 use lib.Dec.{eqb, lit≤}
-use lib.ListN.{length, take, replicate}
+use lib.ListN.{length, replicate}
 use lib.Seq.{take-at}
-use Rattle.buffer.specs.Checked.{Checked, is, refused as refusedBy}
+use Rattle.buffer.specs.Checked.{is, refused as refusedBy}
 use Rattle.profile.specs.Plan.{Plan, Content, gray, rgb, xyb, GoodCicp, GoodContent, InRange, Valid, maxLetters}
 use Rattle.profile.specs.Numbers.{planOf, numbersFor, numbersOf, textOf}
 use Rattle.profile.specs.PlanLaws.{plan-of-numbers}
@@ -20,9 +20,9 @@ use Rattle.profile.specs.declared.Curve.{Curve}
 use Rattle.profile.specs.declared.Curve.the-variants.{Named, Gamma}
 use Rattle.profile.specs.declared.Cicp.{Cicp}
 use Rattle.profile.specs.declared.Cicp.the-variants.{Absent, Primaries}
-use Rattle.reader_spec.specs.RefusalList.{Answer, Check, c21, c22, c23, c24, c25, c26, c27, c28, refused, accepted, number}
+use Rattle.reader_spec.specs.RefusalList.{Check, c21, c22, c23, c24, c25, c26, c27, c28, refused, accepted, number}
 use Rattle.reading.specs.Reading.{kindNumber, nameNumber, curveNumber, gammaNumber, cicpNumber, textArray, acceptedWith, reading}
-use Rattle.demands.specs.Told.{kindBy, nameBy, curveBy, cicpBy, numbersIn, planIn, told}
+use Rattle.demands.specs.Told.{kindBy, curveBy, cicpBy, numbersIn, told}
 
 kind-back : (k : Kind) → kindBy (kindNumber k) ≡ k
 kind-back Gray = refl

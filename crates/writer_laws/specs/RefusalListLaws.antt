@@ -1,20 +1,19 @@
 -- The steps of `planOf` decide the checks of the refusal list, in their order. Assumes nothing.
-use Prim.Native.Nat.{ℕ, _≤_}
-use mathlib.Core.Path.{_≡_, refl, sym, ap, subst, _∙_}
+use Prim.Native.Nat.{ℕ}
+use mathlib.Core.Path.{_≡_, refl, sym, subst, _∙_}
 use mathlib.Core.Bool.{Bool, true, false, not, cond}
 use mathlib.Core.List.{List, [], _∷_}
 use native.Mathlib.Omega.{arith}
 use lib.Dec.{leb, leb→le}
 use lib.ListN.{length}
 use lib.IntN.{ℤ}
-use lib.Ieee.{Float, lt}
+use lib.Ieee.{Float}
 use borrow.Author.Tests.{le-leb}
 use Rattle.buffer.specs.All.{All, none, more}
 use Rattle.buffer.specs.BoolLaws as Bools
 use Rattle.buffer.specs.Checked.{Checked, is, refused, then, each}
 use Rattle.buffer.specs.CheckedLaws.{then-assoc}
 use Rattle.buffer.specs.First.{First, fails, later}
-use Rattle.floats.specs.Abs.{abs}
 use Rattle.numbers.specs.Fixed.{s15Fixed16, fixedOr}
 use Rattle.numbers.specs.declared.fixed.S15Fixed16.{S15Fixed16}
 use Rattle.numbers.specs.declared.fixed.S15Fixed16.the-variants.{Number, OutOfRange}

@@ -1,20 +1,18 @@
 -- The writer's answer to gray, to RGB and to XYB, check by check. Assumes nothing.
 use Prim.Native.Nat.{ℕ}
 use mathlib.Core.Path.{_≡_, refl, sym, ap, subst, _∙_}
-use mathlib.Core.Bool.{Bool, true, false}
-use mathlib.Core.List.{List, [], _∷_}
+use mathlib.Core.Bool.{true, false}
+use mathlib.Core.List.{[], _∷_}
 use native.Mathlib.Omega.{arith}
 use lib.ListN.{length}
-use lib.IntN.{ℤ}
 use lib.Ieee.{Float, lt}
-use Rattle.buffer.specs.Checked.{Checked, is, refused, then, each}
+use Rattle.buffer.specs.Checked.{is, refused}
 use Rattle.buffer.specs.CheckedLaws.{never}
 use Rattle.buffer.specs.First.{fails}
 use Rattle.buffer.specs.FirstLaws.{first-unique, first-not-all}
 use Rattle.floats.specs.Abs.{abs}
 use Rattle.floats.specs.Binary32.{_⊘_, one}
-use Rattle.numbers.specs.Fixed.{fixedOr}
-use Rattle.linalg.specs.Linalg.{component, rows, columns}
+use Rattle.linalg.specs.Linalg.{rows, columns}
 use Rattle.matrix_inverse.specs.Inverse.{singular}
 use Rattle.color_encoding.specs.Coordinates.{whiteXy, primariesXy}
 use Rattle.color_encoding.specs.Intent.{intentNumber}
@@ -34,12 +32,11 @@ use Rattle.colorimetry.specs.Adapt.{adaptable, chadMatrix}
 use Rattle.colorimetry.specs.AdaptLaws.{chad-given, chad-refused, matrix-given, matrix-refused}
 use Rattle.colorimetry.specs.Primaries.{primariesMatrix, createIccRgbMatrix}
 use Rattle.profile.specs.Plan.{Plan, xyb}
-use Rattle.profile.specs.declared.Curve.{Curve}
 use Rattle.profile.specs.declared.Curve.the-variants.{Named, Gamma}
 use Rattle.profile.specs.declared.CurveName.{CurveName}
 use Rattle.profile.specs.declared.CurveName.the-variants as Name
 use Rattle.encoding_plan.specs.Answers.{reciprocalRefusal}
-use Rattle.encoding_plan.specs.PlanOf.{supported, curveOf, grayNumbers, chadNumbers, columnNumbers, cicpOf, grayPlan, rgbPlan, planOf}
+use Rattle.encoding_plan.specs.PlanOf.{supported, curveOf, cicpOf, grayPlan, rgbPlan, planOf}
 use Rattle.encoding_curve.specs.declared.SupportedCurve.{SupportedCurve}
 use Rattle.encoding_curve.specs.declared.SupportedCurve.the-variants as Supported
 use Rattle.profile.specs.Layout.{layout}
@@ -54,7 +51,7 @@ use Rattle.writer_laws.specs.RefusalListLaws.{Decides, passes, refuses, 
 neither : (t : JxlTransferFunction) {s : SupportedCurve} → supported t ≡ is s → NeitherPqNorHlg t
 neither t h = (λ e. never (sym (ap supported e) ∙ h), λ e. never (sym (ap supported e) ∙ h))
 
-supported-decides : (t : JxlTransferFunction) → Decides (NeitherPqNorHlg t) 1 (supported t)
+pub supported-decides : (t : JxlTransferFunction) → Decides (NeitherPqNorHlg t) 1 (supported t)
 supported-decides F.BT709 = passes (neither F.BT709 refl) (Supported.Named Name.BT709) refl
 supported-decides F.Linear = passes (neither F.Linear refl) (Supported.Named Name.Linear) refl
 supported-decides F.SRGB = passes (neither F.SRGB refl) (Supported.Named Name.SRGB) refl
@@ -78,7 +75,7 @@ gamma-if F.DCI e = not-named (sym e)
 gamma-if F.PQ e = absurd (never e)
 gamma-if F.HLG e = absurd (never e)
 
-curve-decides : (t : JxlTransferFunction) (s : SupportedCurve) → supported t ≡ is s → Decides (ReciprocalFits t) reciprocalRefusal (curveOf s)
+pub curve-decides : (t : JxlTransferFunction) (s : SupportedCurve) → supported t ≡ is s → Decides (ReciprocalFits t) reciprocalRefusal (curveOf s)
 curve-decides t (Supported.Named n) h = passes (λ g e. not-named (sym (ap supported e) ∙ h)) (Named n) refl
 curve-decides t (Supported.Gamma g) h =
     decides-by
