@@ -13,10 +13,12 @@ ghost use mathlib.Core.Path.{_≡_};
 ghost use mathlib.Core.Bool.{true};
 ghost use Prim.Native.Nat.{_+_, _*_, _≤_};
 ghost use lib.ListN.{length, take, drop};
-ghost use Rattle.buffer.specs.Bytes.{same};
+ghost use Rattle.words.specs.Words.{be32};
+ghost use Rattle.buffer.specs.Buffer.{put};
+ghost use Rattle.buffer.specs.Bytes.{zeros, same};
 ghost use Rattle.profile.specs.Elements.{headerSize, countSize, lineSize, start, tagCount, table, fileLength};
 ghost use Rattle.profile.specs.Plan.{maxLetters};
-ghost use Rattle.profile.specs.Layout.{idAt, idSize, header, layout};
+ghost use Rattle.profile.specs.Layout.{intentAt, idAt, idSize, header, layout};
 ghost use Rattle.profile.specs.Numbers.{planOf};
 ghost use Rattle.profile.specs.Shape as Shapes;
 ghost use Rattle.reader_spec.specs.Table.{varyingOf};
@@ -72,7 +74,17 @@ pub struct Comparison {
     pub id: bool,
 }
 
-// A file compared with the layout of the one plan that it can have.
+// The header and the tag table of a file, which end at `at`, with the intent and the id zero, to the front of a slice.
+fn put_blank_front(laid: &mut [u8], file: &[u8], at: usize)
+    requires { ⌜ (headerSize ≤ at) × (at ≤ length (now file)) × (at ≤ length (now laid)) ⌝ }
+    ensures { λ _. ⌜ now (laid .exit) ≡ put (now (laid .entry)) 0 (put (put (take at (now (file .entry))) intentAt (be32 0)) idAt (zeros idSize)) ⌝ }
+{
+    buffer::put_bytes(laid, 0, &file[..at]);
+    words::put_u32_be(laid, INTENT, 0);
+    buffer::put_zeros(laid, ID, ID_END - ID);
+}
+
+// A file compared with the layout of the one plan that it can have. Its header and its tag table are those of the plan, so only the rest is laid out.
 pub fn compared(file: &[u8], plan: Numbers, text: &[u8]) -> Comparison
     requires { ⌜ Candidate (now file) plan (now text) × (Tests.lettersAndCicpGood plan (now text) ≡ true) ⌝ }
     ensures { λ r. ⌜ r .elements ≡ same (drop (start (Shapes.slotsOf (Shapes.shape (planOf plan (now (text .entry)))))) (now (file .entry))) (drop (start (Shapes.slotsOf (Shapes.shape (planOf plan (now (text .entry)))))) (layout (planOf plan (now (text .entry))))) ⌝ }
@@ -80,7 +92,9 @@ pub fn compared(file: &[u8], plan: Numbers, text: &[u8]) -> Comparison
 {
     let at = fields::elements_start(file);
     let mut laid = [0u8; MAX_LENGTH];
-    let size = layout::put_plan(&mut laid, plan, text);
+    let size = file.len();
+    put_blank_front(&mut laid, file, at);
+    layout::put_elements_and_id(&mut laid, at, size, plan, text);
     Comparison {
         elements: buffer::same_bytes(&file[at..], &laid[at..size]),
         id: buffer::same_bytes(&file[ID..ID_END], &laid[ID..ID_END]),

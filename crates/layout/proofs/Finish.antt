@@ -1,29 +1,58 @@
 -- The layout from header, tag table, elements, and then the intent and the id. Assumes nothing.
-use Prim.Native.Nat.{ℕ, _+_, _*_, _≤_}
+use Prim.Native.Nat.{ℕ, _+_, _*_, _-_, _≤_}
 use mathlib.Core.Path.{_≡_, refl, ap, ap₂, sym, _∙_}
-use mathlib.Core.List.{List, [], _∷_, _++_, append-nil}
+use mathlib.Core.List.{List, [], _++_, append-assoc}
+use native.Mathlib.Nat.{zero-add}
 use native.Mathlib.Omega.{arith}
-use lib.ListN.{length, take}
+use lib.ListN.{length, take, drop, take-append-drop}
+use lib.Seq.{drop-drop, drop-append-add, length-take-le}
 use Rattle.words.specs.Words.{be32}
 use Rattle.words.specs.WordsLaws.{length-be32}
 use Rattle.buffer.specs.Buffer.{put}
-use Rattle.buffer.specs.BufferLaws.{length-put, take-put, put-within}
+use Rattle.buffer.specs.BufferLaws.{length-put, take-put, put-put, put-after, put-over, put-within}
 use Rattle.buffer.specs.Bytes.{zeros}
 use Rattle.buffer.specs.Puts.{Puts}
+use Rattle.buffer.specs.PutsLaws.{joined}
 use Rattle.md5.specs.Md5.{md5}
 use Rattle.md5.specs.Md5Laws.{length-md5}
 use Rattle.profile.specs.Elements.{Slot, tagCount, table, start, body, bodySize, file, fileLength}
 use Rattle.profile.specs.ElementsLaws.{length-file}
 use Rattle.profile.specs.Plan.{Plan, kind, maxLetters}
 use Rattle.profile.specs.PlanLaws.{Nines, slots-shape, at-most}
-use Rattle.profile.specs.RunsLaws.{next, done, runs}
-use Rattle.profile.specs.TagTypes.{join}
 use Rattle.profile.specs.Layout.{header, elements, slots, withId, blanked, layout}
 use Rattle.profile.specs.LayoutLaws.{length-header, plan-fours, length-layout, blanked-withId, layout-last}
 use Rattle.profile.specs.Shape.{shape, slotsOf, maxLength}
+use Rattle.layout.specs.Begun.{Begun}
+
+-- ---- bytes put into the front of a list
+
+-- those that are there
+put-back : (l q : List ℕ) (n : ℕ) → take n l ≡ q → put l 0 q ≡ l
+put-back l q n e =
+    ap (λ (x : List ℕ). put x 0 q) (sym (take-append-drop n l))
+    ∙ put-over [] (take n l) (drop n l) q 0 refl (ap length (sym e))
+    ∙ ap (λ (x : List ℕ). x ++ drop n l) (sym e)
+    ∙ take-append-drop n l
+
+-- over fewer
+put-longer : (l q r : List ℕ) → length q ≤ length r → put (put l 0 q) 0 r ≡ put l 0 r
+put-longer l q r h =
+    let k : ℕ = length r - length q in
+    let split : length r ≡ length q + k = omega arith in
+    let rest : drop (length r) (q ++ drop (length q) l) ≡ drop (length r) l =
+    ap (λ (n : ℕ). drop n (q ++ drop (length q) l)) split
+    ∙ drop-append-add q (drop (length q) l) k ∙ drop-drop k (length q) l
+    ∙ ap (λ (n : ℕ). drop n l) (sym split)
+    in
+    ap (λ (x : List ℕ). put x 0 r) (put-after [] l q 0 refl)
+    ∙ put-after [] (q ++ drop (length q) l) r 0 refl
+    ∙ ap (λ (x : List ℕ). r ++ x) rest
+    ∙ sym (put-after [] l r 0 refl)
+
+-- ---- the parts of the layout
 
 -- the header while the intent and the id are zero
-abbrev blank : Plan → ℕ → List ℕ
+abbrev pub blank : Plan → ℕ → List ℕ
 blank p n = header (kind p) (record { size = n; intent = 0; id = zeros 16 })
 
 -- what a caller that has room for the layout knows of its parts
@@ -45,11 +74,11 @@ fits p n room h g =
 
 -- the file with its three fields blank, from its parts
 blank-parts : (p : Plan) → Nines (p .content) → (n : ℕ) → n ≡ fileLength (slotsOf (shape p))
-    → join (blank p n ∷ table (slotsOf (shape p)) ∷ body (elements p) ∷ []) ≡ blanked (withId (zeros 16) p)
-unfolding join file
+    → (blank p n ++ table (slotsOf (shape p))) ++ body (elements p) ≡ blanked (withId (zeros 16) p)
+unfolding file
 blank-parts p h n e =
-    ap₂ (λ (n : ℕ) (ss : List Slot). blank p n ++ (table ss ++ (body (elements p) ++ []))) (e ∙ ap fileLength (sym (slots-shape p h))) (sym (slots-shape p h))
-    ∙ ap (λ (l : List ℕ). blank p (fileLength (slots p)) ++ (table (slots p) ++ l)) (append-nil (body (elements p)))
+    append-assoc (blank p n) (table (slotsOf (shape p))) (body (elements p))
+    ∙ ap₂ (λ (n : ℕ) (ss : List Slot). blank p n ++ (table ss ++ body (elements p))) (e ∙ ap fileLength (sym (slots-shape p h))) (sym (slots-shape p h))
     ∙ sym (blanked-withId p (zeros 16) refl)
 
 length-blanked : (p : Plan) → Nines (p .content) → length (blanked (withId (zeros 16) p)) ≡ fileLength (slotsOf (shape p))
@@ -62,21 +91,37 @@ at-least-header : (ss : List Slot) → 128 ≤ fileLength ss
 unfolding fileLength start
 at-least-header ss = omega arith
 
--- the header, the table and the elements, as calls leave them, and then the intent and the id
-pub finished : (p : Plan) → Nines (p .content) → (l : List ℕ) {a b d out : List ℕ} {n s k r : ℕ} → length (layout p) ≤ length l
-    → n ≡ fileLength (slotsOf (shape p)) → a ≡ put l 0 (blank p n) → Puts a 128 (4 + 12 * tagCount (slotsOf (shape p))) (table (slotsOf (shape p))) s b
-    → Puts b s k (body (elements p)) r d → out ≡ put (put d 64 (be32 (p .intent))) 84 (md5 (take n d)) → out ≡ put l 0 (layout p)
-finished p h l {a} {b} {d} {out} {n} {s} {k} {r} room hn ha hb hd ho =
+-- the header and the table, as calls leave them
+pub begun : (p : Plan) (l : List ℕ) {a b : List ℕ} {n s : ℕ} → Fits p (length l) → n ≡ fileLength (slotsOf (shape p)) → a ≡ put l 0 (blank p n)
+    → Puts a 128 (4 + 12 * tagCount (slotsOf (shape p))) (table (slotsOf (shape p))) s b
+    → Begun p b s n × (b ≡ put l 0 (blank p n ++ table (slotsOf (shape p))))
+begun p l {a} {b} {n} {s} f hn ha hb =
+    let both = joined (omega arith) (record { size = length-header (kind p) _ refl; place = refl; bytes = ha }) hb in
+    let q : List ℕ = blank p n ++ table (slotsOf (shape p)) in
+    let ends : s ≡ start (slotsOf (shape p)) = omega (arith, both .place, f .header) in
+    let kept : length b ≡ length l = ap length (both .bytes) ∙ length-put l 0 q (omega (arith, both .size, both .place, ends, f .whole)) in (
+      record {
+        place = ends;
+        size = hn;
+        room = omega (arith, kept, f .parts, f .whole);
+        front = ap (take s) (both .bytes) ∙ take-put l 0 q s (omega arith) (omega (arith, both .size, both .place));
+      },
+      both .bytes,
+    )
+
+-- the elements behind them, and then the intent and the id
+pub finished : (p : Plan) → Nines (p .content) → (l : List ℕ) {d out : List ℕ} {at n k r : ℕ} → Begun p l at n
+    → Puts l at k (body (elements p)) r d → out ≡ put (put d 64 (be32 (p .intent))) 84 (md5 (take n d)) → out ≡ put l 0 (layout p)
+unfolding fileLength
+finished p h l {d} {out} {at} {n} b hd ho =
     let f : List ℕ = blanked (withId (zeros 16) p) in
-    let laid : d ≡ put l 0 (join (blank p n ∷ table (slotsOf (shape p)) ∷ body (elements p) ∷ [])) =
-    runs
-    (next (record { size = length-header (kind p) _ refl; place = refl; bytes = ha })
-    (next hb
-    (next hd
-    done))) (omega arith) .bytes
+    let q : List ℕ = blank p n ++ table (slotsOf (shape p)) in
+    let behind : at ≡ 0 + length q = sym (length-take-le at l (omega (arith, b .place, b .size, b .room))) ∙ ap length (b .front) ∙ sym (zero-add (length q)) in
+    let at-front : d ≡ put l 0 f =
+    hd .bytes ∙ ap₂ (λ (x : List ℕ) (i : ℕ). put x i (body (elements p))) (sym (put-back l q at (b .front))) behind
+    ∙ put-put l 0 q (body (elements p)) (omega arith) ∙ ap (put l 0) (blank-parts p h n (b .size))
     in
-    let whole : length f ≡ n = length-blanked p h ∙ sym hn in
-    let at-front : d ≡ put l 0 f = laid ∙ ap (put l 0) (blank-parts p h n hn) in
+    let whole : length f ≡ n = length-blanked p h ∙ sym (b .size) in
     let hash : take n d ≡ f = ap₂ take (sym whole) at-front ∙ take-put l 0 f (length f) (omega arith) refl in
     let long : 128 ≤ length f = rw (length-blanked p h) (at-least-header (slotsOf (shape p))) in
     let g : List ℕ = put f 64 (be32 (p .intent)) in
@@ -85,3 +130,11 @@ finished p h l {a} {b} {d} {out} {n} {s} {k} {r} room hn ha hb hd ho =
     ∙ ap (λ (x : List ℕ). put x 84 (md5 f)) (put-within l f 64 (be32 (p .intent)) intent)
     ∙ put-within l g 84 (md5 f) (omega (arith, length-md5 f, length-put f 64 (be32 (p .intent)) intent))
     ∙ ap (put l 0) (layout-last p)
+
+-- the layout covers what was in front
+pub covered : (p : Plan) → Nines (p .content) → (l : List ℕ) {b : List ℕ} {s n : ℕ} → Begun p b s n → b ≡ put l 0 (blank p n ++ table (slotsOf (shape p)))
+    → put b 0 (layout p) ≡ put l 0 (layout p)
+unfolding fileLength
+covered p h l {b} {s} {n} g e =
+    let front : length (blank p n ++ table (slotsOf (shape p))) ≡ s = ap length (sym (g .front)) ∙ length-take-le s b (omega (arith, g .place, g .size, g .room)) in
+    ap (λ (x : List ℕ). put x 0 (layout p)) e ∙ put-longer l _ (layout p) (omega (arith, front, g .place, length-layout p h))

@@ -2,18 +2,18 @@
 use Prim.Native.Nat.{ℕ, _-_, _≤_}
 use mathlib.Core.Path.{_≡_, ap, ap₂, sym, _∙_}
 use mathlib.Core.List.{List}
-use native.Mathlib.Nat.{zero-add}
 use native.Mathlib.Omega.{arith}
-use lib.ListN.{length, take, drop, replicate}
+use lib.ListN.{length, take, drop}
 use borrow.Rule.Slice.PartAt.{part-to-end}
 use borrow.Author.Needs.{needs}
+use Rattle.buffer.specs.Buffer.{put}
 use Rattle.buffer.specs.Bytes.{same}
 use Rattle.profile.specs.Elements.{start}
 use Rattle.profile.specs.Numbers.{planOf}
 use Rattle.profile.specs.Layout.{layout}
 use Rattle.profile.specs.Shape.{shape, slotsOf}
 use Rattle.profile.specs.declared.Numbers.{Numbers}
-use Rattle.comparisons.proofs.Plans.{start-is, text-short, start-inside, at-most-1240, as-long, from-place, within}
+use Rattle.comparisons.proofs.Plans.{start-is, text-short, start-inside, at-most-1240, as-long, starts-layout, from-place, within}
 use Rattle.comparisons.proofs.compared.Statement.{statement}
 use Rattle.comparisons.proofs.compared.Tie as tie
 
@@ -42,47 +42,57 @@ module _ (c : tie.After-elements-start) where
   at-most : length file ≤ 1240
   at-most = at-most-1240 file plan text (begun .pre .0)
 
-put-plan-requires : tie.Need-put-plan-requires
-put-plan-requires c κs =
-    let a = c .before in
-    (text-short (file a) (plan a) (text a) (begun a .pre .0), omega (arith, size a, at-most a))
+  at-start : c .elements-start .result ≡ place
+  at-start = c .elements-start .ensures ∙ start-is file plan text (begun .pre .0)
 
-module _ (c : tie.After-put-plan) where
+  inside : c .elements-start .result ≤ length file
+  inside = omega (arith, at-start, start-inside file plan text (begun .pre .0))
+
+put-blank-front-requires : tie.Need-put-blank-front-requires
+put-blank-front-requires c κs =
+    let first = c .before in
+    (omega (arith, first .elements-start .ensures), inside first, omega (arith, inside first, at-most first))
+
+-- the front of the array is that of the layout
+put-elements-and-id-requires : tie.Need-put-elements-and-id-requires
+put-elements-and-id-requires c κs =
+    let put = c .before .before in
+    let first = put .before .before in
+    let b = begun first in
+    (text-short (file first) (plan first) (text first) (b .pre .0), starts-layout (file first) (plan first) (text first) (b .pre .0) _ _ (at-start first) (put .put-blank-front .ensures))
+
+module _ (c : tie.After-put-elements-and-id) where
+  abbrev front : tie.After-put-blank-front
+  front = c .before .before .before
+
   abbrev first : tie.After-elements-start
-  first = c .before .before
+  first = front .before .before
 
-  at-start : first .elements-start .result ≡ place first
-  at-start = first .elements-start .ensures ∙ start-is (file first) (plan first) (text first) (begun first .pre .0)
-
-  inside : first .elements-start .result ≤ length (file first)
-  inside = omega (arith, at-start, start-inside (file first) (plan first) (text first) (begun first .pre .0))
-
-  as-file : c .put-plan .result ≡ length (file first)
-  as-file = c .put-plan .ensures .place ∙ zero-add _ ∙ size first
+  array : c .put-elements-and-id .last .0 ≡ put (front .put-blank-front .last .0) 0 (laid first)
+  array = c .put-elements-and-id .ensures
 
   -- elements and padding of the layout
-  elements : take (c .put-plan .result - first .elements-start .result) (drop (first .elements-start .result) (c .put-plan .last .0)) ≡ drop (place first) (laid first)
+  elements : take (length (file first) - first .elements-start .result) (drop (first .elements-start .result) (c .put-elements-and-id .last .0)) ≡ drop (place first) (laid first)
   elements =
-      from-place (replicate 1240 0) (laid first) (c .put-plan .ensures .bytes) (first .elements-start .result) (c .put-plan .result) (sym (zero-add _) ∙ sym (c .put-plan .ensures .place)) (omega (arith, inside, as-file))
-      ∙ ap (λ (k : ℕ). drop k (laid first)) at-start
+      from-place _ (laid first) array (first .elements-start .result) (length (file first)) (size first) (inside first) ∙ ap (λ (k : ℕ). drop k (laid first)) (at-start first)
 
-  id : take 16 (drop 84 (c .put-plan .last .0)) ≡ take 16 (drop 84 (laid first))
-  id = within (replicate 1240 0) (laid first) (c .put-plan .ensures .bytes) 84 16 (omega (arith, size first, begun first .pre .0 .tabled .headed .sized .long))
+  id : take 16 (drop 84 (c .put-elements-and-id .last .0)) ≡ take 16 (drop 84 (laid first))
+  id = within _ (laid first) array 84 16 (omega (arith, size first, begun first .pre .0 .tabled .headed .sized .long))
 
-  fits : c .put-plan .result ≤ length (c .put-plan .last .0)
-  fits = omega (arith, as-file, at-most first, c .put-plan .kept .0)
+  fits : length (file first) ≤ length (c .put-elements-and-id .last .0)
+  fits = omega (arith, at-most first, c .put-elements-and-id .kept .0, front .put-blank-front .kept .0)
 
 sub-same-bytes : tie.Need-sub-same-bytes
-sub-same-bytes c = inside (c .before)
+sub-same-bytes c = inside (first (c .before))
 
 part-same-bytes-start : tie.Need-part-same-bytes-start
-part-same-bytes-start c = omega (arith, inside (c .before))
+part-same-bytes-start c = omega (arith, inside (first (c .before)))
 
 sub-same-bytes-2 : tie.Need-sub-same-bytes-2
-sub-same-bytes-2 c = omega (arith, inside (c .before .before), as-file (c .before .before))
+sub-same-bytes-2 c = inside (first (c .before .before))
 
 part-same-bytes-start-2 : tie.Need-part-same-bytes-start-2
-part-same-bytes-start-2 c = omega (arith, inside (c .before .before .before), as-file (c .before .before .before))
+part-same-bytes-start-2 c = omega (arith, inside (first (c .before .before .before)))
 
 part-same-bytes-end-2 : tie.Need-part-same-bytes-end-2
 part-same-bytes-end-2 c = omega (arith, fits (c .before .before .before))
@@ -92,7 +102,7 @@ compared : (c : tie.After-same-bytes) →
     c .same-bytes .result ≡ same (drop (place f) (file f)) (drop (place f) (laid f))
 compared c =
     let put = c .before .before .before .before .before in
-    c .same-bytes .ensures ∙ ap₂ same (simp part-to-end (ap (λ (k : ℕ). drop k (file (first put))) (at-start put))) (elements put)
+    c .same-bytes .ensures ∙ ap₂ same (simp part-to-end (ap (λ (k : ℕ). drop k (file (first put))) (at-start (first put)))) (elements put)
 
 returns : tie.Need-returns
 returns c =
@@ -106,7 +116,9 @@ compared-spec =
     (tie.spec
     (λ c κs. search needs)
     (λ c. search needs)
-    put-plan-requires
+    put-blank-front-requires
+    (λ c. search needs)
+    put-elements-and-id-requires
     sub-same-bytes
     part-same-bytes-start
     (λ c. search needs)

@@ -1,18 +1,21 @@
--- Header, table, elements, intent and id make the layout: the law `finished`. What fits is known from the sizes: the law `fits`.
+-- Header and table begin the layout (`begun`), which then covers them (`covered`). What fits is known from the sizes (`fits`).
 -- Assumes nothing.
 use borrow.Author.Needs.{needs}
 use Prim.Native.Nat.{_≤_}
 use mathlib.Core.Path.{_≡_, refl, sym, _∙_}
+use mathlib.Core.List.{_++_}
 use native.Mathlib.Nat.{zero-add}
 use native.Mathlib.Omega.{arith}
 use lib.ListN.{length}
-use Rattle.profile.specs.Elements.{fileLength}
+use Rattle.buffer.specs.Buffer.{put}
+use Rattle.profile.specs.Elements.{table, fileLength}
 use Rattle.profile.specs.Numbers.{planOf}
 use Rattle.profile.specs.Plan.{Plan, maxLetters}
 use Rattle.profile.specs.PlanLaws.{Nines, kind-by, letters-by, nines-by}
 use Rattle.profile.specs.LayoutLaws.{length-layout}
 use Rattle.profile.specs.Shape.{shape, slotsOf}
-use Rattle.layout.proofs.Finish.{Fits, fits, finished}
+use Rattle.layout.specs.Begun.{Begun}
+use Rattle.layout.proofs.Finish.{Fits, fits, blank, begun as begun-with, covered}
 use Rattle.layout.proofs.put_plan.Statement.{statement}
 use Rattle.layout.proofs.put_plan.Tie as tie
 
@@ -59,39 +62,37 @@ put-table-requires c κs =
     let made = c .before .before .before .before .before .before in
     rw (made .shape-of .ensures) (letters (begun made), omega (arith, room (begun made)))
 
-put-elements-requires : tie.Need-put-elements-requires
-put-elements-requires c κs =
-    let t = c .before .before .before in
-    let made = t .before .before .before .before .before .before .before in
-    (begun made .pre .0, omega (arith, rw (made .shape-of .ensures) at (t .put-table .ensures .place), room (begun made)))
+module _ (c : tie.After-put-table) where
+  abbrev headed : tie.After-create-icc-header
+  headed = c .before .before .before .before
 
-put-intent-and-id-requires : tie.Need-put-intent-and-id-requires
-put-intent-and-id-requires c κs =
-    let third = c .before .before in
-    let second = third .before .before .before .before in
-    let first = second .before .before .before .before in
-    let n = first .before .before .before in
-    let made = n .before in
-    omega (arith, third .out3 .given, second .out2 .given, first .out .given, size n, room (begun made))
+  abbrev sized : tie.After-length
+  sized = headed .before .before
+
+  abbrev start : tie.Start
+  start = begun (sized .before)
+
+  front : Begun (plan start) (c .put-table .last .0) (c .put-table .result) (sized .length .result)
+      × (c .put-table .last .0 ≡ put (start .args .out .now) 0 (blank (plan start) (sized .length .result) ++ table (slotsOf (shape (plan start)))))
+  front =
+      begun-with (plan start) (start .args .out .now) (room start) (size sized) (rw (kind-by (start .args .plan) (start .args .text .now)) (headed .create-icc-header .ensures))
+      (rw (sized .before .shape-of .ensures) at (c .put-table .ensures))
+
+put-elements-and-id-requires : tie.Need-put-elements-and-id-requires
+put-elements-and-id-requires c κs = let t = c .before .before .before in (start t .pre .0, front t .0)
 
 same-length : tie.Need-same-length
 same-length c = search needs
 
 returns : tie.Need-returns
 returns c =
-    let s4 = c .before .before in
-    let s3 = s4 .before .before .before .before in
-    let s2 = s3 .before .before .before .before in
-    let s1 = s2 .before .before .before .before in
-    let n = s1 .before .before in
-    let made = n .before in
-    let s = begun made in
+    let last = c .before .before in
+    let t = last .before .before .before .before in
+    let s = start t in
     record {
       size = refl;
-      place = size n ∙ sym (length-layout (plan s) (nines s)) ∙ sym (zero-add _);
-      bytes =
-          finished (plan s) (nines s) (s .args .out .now) (s .pre .1) (size n) (rw (kind-by (s .args .plan) (s .args .text .now)) (s1 .create-icc-header .ensures))
-          (rw (made .shape-of .ensures) at (s2 .put-table .ensures)) (s3 .put-elements .ensures) (s4 .put-intent-and-id .ensures .bytes);
+      place = size (sized t) ∙ sym (length-layout (plan s) (nines s)) ∙ sym (zero-add _);
+      bytes = last .put-elements-and-id .ensures ∙ covered (plan s) (nines s) (s .args .out .now) (front t .0) (front t .1);
     }
 
 pub put-plan-spec : {M : Type 1} → statement M
@@ -103,7 +104,6 @@ put-plan-spec =
     cast-create-icc-header
     create-icc-header-requires
     put-table-requires
-    put-elements-requires
-    put-intent-and-id-requires
+    put-elements-and-id-requires
     same-length
     returns)
