@@ -157,13 +157,21 @@ fn digest(w: State) -> [u8; 16]
     sum
 }
 
-// Where a padded tail ends that begins with `rest` bytes of data. The byte 128 and the eight bytes
+// The bytes of a block, and of the longest tail.
+const BLOCK: usize = 64;
+
+const TWO_BLOCKS: usize = 2 * BLOCK;
+
+// The first byte of the padding: a bit 1, then zeros (3.1).
+const PADDING: u8 = 0x80;
+
+// Where a padded tail ends that begins with `rest` bytes of data. The first byte of the padding and the eight bytes
 // of the length come behind them, so that 56 bytes and more need a second block.
 fn tail_end(rest: usize) -> usize
     requires { ⌜ rest < 64 ⌝ }
     ensures { λ r. ⌜ r ≡ (rest + 72) / 64 * 64 ⌝ }
 {
-    if rest < 56 { 64 } else { 128 }
+    if rest < 56 { BLOCK } else { TWO_BLOCKS }
 }
 
 // Lays what follows the whole blocks of the data into a tail of zeros: the data's last bytes, the
@@ -176,7 +184,7 @@ fn pad(data: &[u8], tail: &mut [u8]) -> usize
     let whole = data.len() - rest;
     let end = tail_end(rest);
     buffer::put_bytes(tail, 0, &data[whole..]);
-    tail[rest] = 128;
+    tail[rest] = PADDING;
     let bit_len = (data.len() as u64) << 3;
     put_word(tail, end - 8, (bit_len % 0x1_0000_0000) as u32);
     put_word(tail, end - 4, (bit_len >> 32) as u32);
@@ -195,7 +203,7 @@ pub fn compute_md5(data: &[u8]) -> [u8; 16]
     };
     let t = SINEPARTS;
     let w = process(data, &t, buffer);
-    let mut tail = [0u8; 128];
+    let mut tail = [0u8; TWO_BLOCKS];
     let end = pad(data, &mut tail);
     digest(process(&tail[..end], &t, w))
 }

@@ -7,19 +7,19 @@ use lib.ListN.{length}
 use Rattle.color_encoding.specs.declared.JxlColorEncoding.{JxlColorEncoding}
 use Rattle.color_encoding.specs.declared.JxlColorEncoding.the-variants.{RgbColorSpace, GrayscaleColorSpace, XYB}
 use Rattle.buffer.specs.Ascii.{Ascii}
-use Rattle.text.specs.Description.{description}
+use Rattle.text.specs.Description.{description, maxBytes, maxBytesInRange}
 use Rattle.text.specs.Held.{HeldEncoding, WhiteInRange}
 use Rattle.text.specs.BoundsLaws.{length-white, length-white-in-range, length-rgb, length-gray-text, length-xyb-text, some-rgb, some-gray, some-xyb, ascii-rgb, ascii-gray, ascii-xyb}
 
 -- a description has at most 449 bytes
-pub length-description : (e : JxlColorEncoding) → HeldEncoding e → length (description e) ≤ 449
+pub length-description : (e : JxlColorEncoding) → HeldEncoding e → length (description e) ≤ maxBytes
 unfolding description
 length-description (RgbColorSpace w p t i) h = length-rgb w p t i 97 (length-white w (h .0)) (h .1 .0) (h .1 .1)
 length-description (GrayscaleColorSpace w t i) h = le-trans (length-gray-text w t i (h .0) (h .1)) (lit≤ tt)
 length-description (XYB i) h = le-trans (length-xyb-text i) (lit≤ tt)
 
 -- and at most 372 where the white of an RGB encoding is in range
-pub length-in-range : (e : JxlColorEncoding) → HeldEncoding e → WhiteInRange e → length (description e) ≤ 372
+pub length-in-range : (e : JxlColorEncoding) → HeldEncoding e → WhiteInRange e → length (description e) ≤ maxBytesInRange
 unfolding description
 length-in-range (RgbColorSpace w p t i) h r = length-rgb w p t i 20 (length-white-in-range w r) (h .1 .0) (h .1 .1)
 length-in-range (GrayscaleColorSpace w t i) h r = le-trans (length-gray-text w t i (h .0) (h .1)) (lit≤ tt)

@@ -40,3 +40,10 @@ unfolding rgbDescription grayText xybText
 description (RgbColorSpace w p t i) = rgbDescription w p t i
 description (GrayscaleColorSpace w t i) = grayText w t i
 description (XYB i) = xybText i
+
+-- the most bytes that a description has (Bounds), and that one has whose white is in range
+abbrev pub maxBytes : ℕ
+maxBytes = 449
+
+abbrev pub maxBytesInRange : ℕ
+maxBytesInRange = 372

@@ -7,14 +7,14 @@ use lib.ListN.{length}
 use Rattle.buffer.specs.Bytes.{zeros}
 use Rattle.buffer.specs.Puts.{PutsText}
 use Rattle.color_encoding.specs.declared.JxlColorEncoding.{JxlColorEncoding}
-use Rattle.text.specs.Description.{description}
+use Rattle.text.specs.Description.{description, maxBytes, maxBytesInRange}
 use Rattle.text.specs.Held.{WhiteInRange}
 use Rattle.text.specs.declared.Text.{Text}
 
--- a text of at most 449 letters, and of at most 372 where what is asked holds
+-- a text that is as short as every description, and as one whose white is in range where what is asked holds
 pub record Short (Asked : Type 0) (text : List ℕ) : Type 0 where
-  pub any : length text ≤ 449
-  pub accepted : Asked → length text ≤ 372
+  pub any : length text ≤ maxBytes
+  pub accepted : Asked → length text ≤ maxBytesInRange
 
 -- a whole text, put to the front
 pub record PutsDescription (Asked : Type 0) (text l : List ℕ) (r : ℕ) (out : List ℕ) : Type 0 where
@@ -24,5 +24,5 @@ pub record PutsDescription (Asked : Type 0) (text l : List ℕ) (r : ℕ) (out :
 -- the description by value, zeros after it
 pub record Describes (e : JxlColorEncoding) (text : Text) : Type 0 where
   pub len : text .len ≡ length (description e)
-  pub bytes : text .bytes ≡ description e ++ zeros (449 - length (description e))
+  pub bytes : text .bytes ≡ description e ++ zeros (maxBytes - length (description e))
   pub short : Short (WhiteInRange e) (description e)

@@ -20,12 +20,15 @@ ghost use Rattle.buffer.specs.Puts.{Puts};
 ghost use Rattle.encoding_names.specs.Held.{HeldWhite, HeldTransfer, PutsPart};
 ghost use Rattle.encoding_names.specs.Names.{whiteName, transferName};
 ghost use Rattle.text.specs.Held.{InRange, WhiteInRange};
-ghost use Rattle.text.specs.Description.{underscore, rgbText, grayText, xybText, rgbDescription, description};
+ghost use Rattle.text.specs.Description.{underscore, rgbText, grayText, xybText, rgbDescription, description, maxBytes};
 ghost use Rattle.text.specs.Written.{PutsDescription, Describes};
+
+// The most bytes of a description.
+const MAX_BYTES: usize = 449;
 
 // A description: the first `len` bytes; zeros after it.
 pub struct Text {
-    pub bytes: [u8; 449],
+    pub bytes: [u8; MAX_BYTES],
     pub len: usize,
 }
 
@@ -39,7 +42,7 @@ fn put_intent(out: &mut [u8], at: usize, intent: RenderingIntent) -> usize
 
 // The name of a color space, and the white point.
 fn put_space(out: &mut [u8], space: &[u8; 4], white: JxlWhitePoint) -> usize
-    requires { ⌜ 449 ≤ length (now out) ⌝ }
+    requires { ⌜ maxBytes ≤ length (now out) ⌝ }
     ensures { λ r. ⌜ PutsPart 101 (HeldWhite white) (now (out .entry)) 0 (now (space .entry) ++ whiteName white) r (now (out .exit)) ⌝ }
 {
     let i = put_bytes(&mut *out, 0, space);
@@ -70,7 +73,7 @@ fn put_rgb_text(
     transfer: JxlTransferFunction,
     intent: RenderingIntent,
 ) -> usize
-    requires { ⌜ 449 ≤ length (now out) ⌝ }
+    requires { ⌜ maxBytes ≤ length (now out) ⌝ }
     ensures { λ r. ⌜ PutsDescription (InRange white) (rgbText white primaries transfer intent) (now (out .entry)) r (now (out .exit)) ⌝ }
 {
     let white_end = put_space(&mut *out, b"RGB_", white);
@@ -86,7 +89,7 @@ fn put_gray(
     transfer: JxlTransferFunction,
     intent: RenderingIntent,
 ) -> usize
-    requires { ⌜ 449 ≤ length (now out) ⌝ }
+    requires { ⌜ maxBytes ≤ length (now out) ⌝ }
     ensures { λ r. ⌜ PutsDescription (Unit {0}) (grayText white transfer intent) (now (out .entry)) r (now (out .exit)) ⌝ }
 {
     let white_end = put_space(&mut *out, b"Gra_", white);
@@ -95,7 +98,7 @@ fn put_gray(
 
 // "XYB_", intent.
 fn put_xyb(out: &mut [u8], intent: RenderingIntent) -> usize
-    requires { ⌜ 449 ≤ length (now out) ⌝ }
+    requires { ⌜ maxBytes ≤ length (now out) ⌝ }
     ensures { λ r. ⌜ PutsDescription (Unit {0}) (xybText intent) (now (out .entry)) r (now (out .exit)) ⌝ }
 {
     let intent_at = put_bytes(&mut *out, 0, b"XYB_");
@@ -110,7 +113,7 @@ fn put_rgb(
     transfer: JxlTransferFunction,
     intent: RenderingIntent,
 ) -> usize
-    requires { ⌜ 449 ≤ length (now out) ⌝ }
+    requires { ⌜ maxBytes ≤ length (now out) ⌝ }
     ensures { λ r. ⌜ PutsDescription (InRange white) (rgbDescription white primaries transfer intent) (now (out .entry)) r (now (out .exit)) ⌝ }
 {
     let name = common_name(white, primaries, transfer, intent);
@@ -123,7 +126,7 @@ fn put_rgb(
 }
 
 fn put_description(out: &mut [u8], encoding: JxlColorEncoding) -> usize
-    requires { ⌜ 449 ≤ length (now out) ⌝ }
+    requires { ⌜ maxBytes ≤ length (now out) ⌝ }
     ensures { λ r. ⌜ PutsDescription (WhiteInRange encoding) (description encoding) (now (out .entry)) r (now (out .exit)) ⌝ }
 {
     match encoding {
@@ -151,7 +154,7 @@ fn put_description(out: &mut [u8], encoding: JxlColorEncoding) -> usize
 pub fn get_color_encoding_description(encoding: JxlColorEncoding) -> Text
     ensures { λ r. ⌜ Describes encoding r ⌝ }
 {
-    let mut bytes = [0u8; 449];
+    let mut bytes = [0u8; MAX_BYTES];
     let len = put_description(&mut bytes, encoding);
     Text { bytes, len }
 }
