@@ -7,7 +7,7 @@ use lib.Ieee.{Float, binary64, ofBits, eq}
 use Rattle.buffer.specs.Checked.{Checked, is, refused, then}
 use Rattle.floats.specs.Binary64.{_⊘_, zero, one}
 use Rattle.linalg.specs.Linalg.{three, component, matrix, entry, applied, product}
-use Rattle.numbers.specs.Narrow.{narrow}
+use Rattle.floats.specs.Narrow.{narrow}
 use Rattle.color_encoding.specs.declared.WhiteXy.{WhiteXy}
 use Rattle.color_encoding.specs.Range.{inRange}
 use Rattle.white_point.specs.White.{whiteXyz, finite, finiteXyz}

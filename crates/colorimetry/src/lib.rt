@@ -15,7 +15,7 @@ ghost use Prim.Native.Nat.{_<_};
 ghost use Rattle.floats.specs.Binary64.{_⊘_};
 ghost use Rattle.buffer.specs.Checked.{is, then};
 ghost use Rattle.linalg.specs.Linalg.{three, component, entry, column, product, rows, columns};
-ghost use Rattle.numbers.specs.Narrow.{narrow};
+ghost use Rattle.floats.specs.Narrow.{narrow};
 ghost use Rattle.color_encoding.specs.Range.{inRange};
 ghost use Rattle.white_point.specs.White.{finiteXyz};
 ghost use Rattle.colorimetry.specs.Adapt.{d50, diagonal, hasZero, allFinite, lms, adaptationMatrix, adaptToXyzD50, checkedAdaptation, narrowed, chadMatrix};

@@ -22,7 +22,7 @@ use Rattle.decimal.specs.Seven.{sevenDecimals}
 use Rattle.floats.specs.Abs.{abs}
 use Rattle.linalg.specs.Linalg.{dot, applied, product}
 use Rattle.matrix_inverse.specs.Inverse.{minor, cofactor, cofactors, determinant, adjugate, singular, inverse}
-use Rattle.numbers.specs.Narrow.{narrow}
+use Rattle.floats.specs.Narrow.{narrow}
 use Rattle.color_encoding.specs.Range.{inRange}
 use Rattle.white_point.specs.White.{whiteXyz, finite, finiteXyz}
 use Rattle.white_point.specs.GrayWhite.{cieXyzFromWhiteCieXy}

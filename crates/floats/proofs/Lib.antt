@@ -1,1 +1,3 @@
+mod NarrowPattern
+mod Narrowing
 mod Quotients

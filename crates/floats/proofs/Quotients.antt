@@ -2,10 +2,13 @@
 -- Assumes nothing.
 use Prim.Native.Nat.{ℕ, _+_, _*_, _/_, _%_, _^_, _≤_, _<_}
 use mathlib.Core.Path.{_≡_, sym, ap, _∙_}
+use mathlib.Core.Bool.{true, false}
 use native.Mathlib.Nat.{div-le-self, le-trans, le-of-eq, lt-of-lt-of-le}
 use native.Mathlib.Omega.{arith}
+use lib.Dec.{leb}
 use lib.Pow.{pow-mono, pow-pos}
 use lib.Ieee.Nearest.{closest}
+use borrow.Author.Tests.{leb-true, leb-false}
 use Rattle.floats.specs.Rounding.{halvesUp}
 use Rattle.floats.specs.RoundingLaws.{closest-below, closest-above, closest-tie, closest-zero, halvesUp-below, halvesUp-above, halvesUp-zero}
 
@@ -35,8 +38,8 @@ module _ (n d : ℕ) {w t u : ℕ} (e : (w ≡ n / 2 ^ d) × (t ≡ n % 2 ^ d * 
   pub tie : u ≤ t → t ≤ u → w + w % 2 ≡ closest n (2 ^ d)
   tie h g = ap (λ (x : ℕ). x + x % 2) (e .0) ∙ closest-tie n (2 ^ d) (rw (e .1, e .2) at h) (rw (e .1, e .2) at g)
 
-  pub half-below : t < u → w ≡ halvesUp n (2 ^ d)
-  half-below h = e .0 ∙ halvesUp-below n (2 ^ d) (pow-pos d) (rw (e .1, e .2) at h)
+  pub half-below : leb u t ≡ false → w ≡ halvesUp n (2 ^ d)
+  half-below h = e .0 ∙ halvesUp-below n (2 ^ d) (pow-pos d) (rw (e .1, e .2) at (leb-false u t h))
 
-  pub half-above : u ≤ t → w + 1 ≡ halvesUp n (2 ^ d)
-  half-above h = ap (λ (x : ℕ). x + 1) (e .0) ∙ halvesUp-above n (2 ^ d) (pow-pos d) (rw (e .1, e .2) at h)
+  pub half-above : leb u t ≡ true → w + 1 ≡ halvesUp n (2 ^ d)
+  half-above h = ap (λ (x : ℕ). x + 1) (e .0) ∙ halvesUp-above n (2 ^ d) (pow-pos d) (rw (e .1, e .2) at (leb-true u t h))

@@ -6,3 +6,4 @@ pub mod Rounding
 pub mod RoundingLaws
 pub mod Fields
 pub mod FieldsLaws
+pub mod Narrow

@@ -2,6 +2,7 @@
 
 ghost use mathlib.Core.Path.{_≡_};
 ghost use Prim.Native.Nat.{_*_, _/_, _%_, _^_, _<_};
+ghost use lib.Dec.{leb};
 ghost use lib.Ieee.Nearest.{closest};
 ghost use Rattle.floats.specs.Rounding.{halvesUp};
 
@@ -44,6 +45,13 @@ pub fn nearest_shifted(n: u64, d: u64) -> u64
     }
 }
 
+// Whether a quotient is rounded up where a half is: its rest is a half or more.
+fn rounds_up(q: Quotient) -> bool
+    ensures { λ r. ⌜ r ≡ leb (q .divisor) (q .«twice_rest») ⌝ }
+{
+    q.divisor <= q.twice_rest
+}
+
 // n / 2^d to the nearest whole number, a half up.
 pub fn halves_up_shifted(n: u64, d: u64) -> u64
     requires { ⌜ n < 2 ^ 63 ⌝ }
@@ -54,9 +62,5 @@ pub fn halves_up_shifted(n: u64, d: u64) -> u64
         return 0;
     }
     let q = shifted(n, d);
-    if q.divisor <= q.twice_rest {
-        q.whole + 1
-    } else {
-        q.whole
-    }
+    if rounds_up(q) { q.whole + 1 } else { q.whole }
 }

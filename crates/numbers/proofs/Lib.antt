@@ -1,4 +1,2 @@
 mod FixedNumber
-mod NarrowPattern
-mod Narrowing
 mod TwosComplement

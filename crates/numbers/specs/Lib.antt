@@ -1,3 +1,2 @@
 pub mod Fixed
 pub mod FixedLaws
-pub mod Narrow

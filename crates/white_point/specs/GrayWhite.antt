@@ -18,11 +18,15 @@ epsilon = ofBits binary32 0x2b8c_bccc
 abbrev pub invalidWhitePointY : {A : Type 0} → Checked A
 invalidWhitePointY = refused 3
 
--- X, Y and Z with Y = 1: x * (1 / y), 1, (1 - x - y) * (1 / y); refused where the magnitude of y is below epsilon
+-- z = 1 - x - y
+abbrev pub grayZ : WhiteXy → Float
+grayZ w = one ⊖ w .wx ⊖ w .wy
+
+-- X, Y and Z with Y = 1: x * (1 / y), 1, z * (1 / y); refused where the magnitude of y is below epsilon
 unfoldable pub cieXyzFromWhiteCieXy : WhiteXy → Checked (List Float)
 cieXyzFromWhiteCieXy w =
     let factor = one ⊘ w .wy in
-    cond (lt (abs (w .wy)) epsilon) invalidWhitePointY (is (w .wx ⊗ factor ∷ one ∷ (one ⊖ w .wx ⊖ w .wy) ⊗ factor ∷ []))
+    cond (lt (abs (w .wy)) epsilon) invalidWhitePointY (is (w .wx ⊗ factor ∷ one ∷ grayZ w ⊗ factor ∷ []))
 
 -- the value of an answer, or its number on the refusal list of 01
 abbrev pub checkedWhiteXyz : WhiteXyz → Checked (List Float)

@@ -7,9 +7,13 @@ use Rattle.floats.specs.Binary64.{_⊖_, _⊘_, one}
 use Rattle.linalg.specs.Linalg.{component}
 use Rattle.color_encoding.specs.declared.WhiteXy.{WhiteXy}
 
--- X, Y and Z with Y = 1: x / y, 1, (1 - x - y) / y. A coordinate is an f32, whose value is that of the f64 that it is widened to
+-- z = 1 - x - y. A coordinate is an f32, whose value is that of the f64 that it is widened to
+abbrev pub whiteZ : WhiteXy → Float
+whiteZ w = one ⊖ w .wx ⊖ w .wy
+
+-- X, Y and Z with Y = 1: x / y, 1, z / y
 unfoldable pub whiteXyz : WhiteXy → List Float
-whiteXyz w = w .wx ⊘ w .wy ∷ one ∷ (one ⊖ w .wx ⊖ w .wy) ⊘ w .wy ∷ []
+whiteXyz w = w .wx ⊘ w .wy ∷ one ∷ whiteZ w ⊘ w .wy ∷ []
 
 -- Rust's `is_finite`
 unfoldable pub finite : Float → Bool

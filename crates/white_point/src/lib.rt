@@ -5,8 +5,8 @@ use color_encoding::WhiteXy;
 use linalg::Vector3;
 ghost use mathlib.Core.Path.{_≡_};
 ghost use Rattle.color_encoding.specs.Range.{inRange};
-ghost use Rattle.white_point.specs.White.{whiteXyz, finite, finiteXyz};
-ghost use Rattle.white_point.specs.GrayWhite.{cieXyzFromWhiteCieXy, checkedWhiteXyz};
+ghost use Rattle.white_point.specs.White.{whiteZ, whiteXyz, finite, finiteXyz};
+ghost use Rattle.white_point.specs.GrayWhite.{grayZ, cieXyzFromWhiteCieXy, checkedWhiteXyz};
 
 // The XYZ of a gray white, or that y is too near to zero.
 pub enum WhiteXyz {
@@ -21,13 +21,22 @@ pub fn in_range(white: WhiteXy) -> bool
     0.0 <= white.wx && white.wx <= 1.0 && (white.wy > 0.0 && white.wy <= 1.0)
 }
 
+// z = 1 - x - y of an RGB white, in f64.
+fn white_z(white: WhiteXy) -> f64
+    ensures { λ r. ⌜ r ≡ whiteZ white ⌝ }
+{
+    let x = std::num::f32_to_f64_with_nan(white.wx);
+    let y = std::num::f32_to_f64_with_nan(white.wy);
+    1.0 - x - y
+}
+
 // XYZ with Y = 1.
 pub fn white_xyz(white: WhiteXy) -> Vector3
     ensures { λ r. ⌜ r ≡ whiteXyz white ⌝ }
 {
     let wx = std::num::f32_to_f64_with_nan(white.wx);
     let wy = std::num::f32_to_f64_with_nan(white.wy);
-    [wx / wy, 1.0, (1.0 - wx - wy) / wy]
+    [wx / wy, 1.0, white_z(white) / wy]
 }
 
 pub fn is_finite(x: f64) -> bool
@@ -45,6 +54,13 @@ pub fn finite_xyz(v: Vector3) -> bool
     is_finite(v[0]) && is_finite(v[2])
 }
 
+// z = 1 - x - y of a gray white, in f32.
+fn gray_z(white: WhiteXy) -> f32
+    ensures { λ r. ⌜ r ≡ grayZ white ⌝ }
+{
+    1.0 - white.wx - white.wy
+}
+
 // The XYZ of a gray profile's white, wholly in f32.
 pub fn cie_xyz_from_white_cie_xy(white: WhiteXy) -> WhiteXyz
     ensures { λ r. ⌜ checkedWhiteXyz r ≡ cieXyzFromWhiteCieXy white ⌝ }
@@ -58,6 +74,6 @@ pub fn cie_xyz_from_white_cie_xy(white: WhiteXy) -> WhiteXyz
     WhiteXyz::Xyz {
         x: wx * factor,
         y: 1.0,
-        z: (1.0 - wx - wy) * factor,
+        z: gray_z(white) * factor,
     }
 }

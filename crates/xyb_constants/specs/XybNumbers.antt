@@ -6,7 +6,7 @@ use mathlib.Core.List.{List, [], _∷_, _++_, map, flatten}
 use lib.IntN.{ℤ}
 use lib.Ieee.{Float, nan, inf, fin, binary32, binary64, up, down, ofBits, neg, le, add, mul}
 use Rattle.numbers.specs.Fixed.{fixedNumber}
-use Rattle.numbers.specs.Narrow.{narrow}
+use Rattle.floats.specs.Narrow.{narrow}
 use Rattle.color_encoding.specs.Coordinates.{whiteXy}
 use Rattle.color_encoding.specs.declared.JxlWhitePoint.the-variants.{D65}
 use Rattle.buffer.specs.Checked.{Checked, is, refused}

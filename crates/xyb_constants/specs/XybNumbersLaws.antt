@@ -7,7 +7,7 @@ use lib.ListN.{length}
 use lib.Ieee.{ofBits, ofInt, neg, eq, lt, le, add, sub, mul, div}
 use Rattle.numbers.specs.Fixed.{s15Fixed16}
 use Rattle.numbers.specs.FixedLaws.{fixedNumbers-are}
-use Rattle.numbers.specs.Narrow.{narrow}
+use Rattle.floats.specs.Narrow.{narrow}
 use Rattle.numbers.specs.declared.fixed.S15Fixed16.the-variants.{Number}
 use Rattle.linalg.specs.Linalg.{applied, product, dot}
 use Rattle.color_encoding.specs.Range.{inRange}

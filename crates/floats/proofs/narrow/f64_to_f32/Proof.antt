@@ -6,11 +6,11 @@ use Prim.Native.Nat.{_/_, _^_, _<_}
 use native.Mathlib.Omega.{arith}
 use lib.Dec.{T}
 use lib.Ieee.{Float, binary64, fits, isNan, toBits}
-use Rattle.numbers.proofs.NarrowPattern.{nan-narrows, sign-le, sign-no-nan, b-lt, finish, infinite}
+use Rattle.floats.proofs.NarrowPattern.{nan-narrows, sign-le, sign-no-nan, b-lt, finish, infinite}
 use Rattle.floats.specs.FieldsLaws.{equals-itself}
 use borrow.Author.Needs.{needs}
-use Rattle.numbers.proofs.narrow.f64_to_f32.Statement.{statement}
-use Rattle.numbers.proofs.narrow.f64_to_f32.Tie as tie
+use Rattle.floats.proofs.narrow.f64_to_f32.Statement.{statement}
+use Rattle.floats.proofs.narrow.f64_to_f32.Tie as tie
 
 abbrev x : tie.Start → Float
 x c = c .args .x

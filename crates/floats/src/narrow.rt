@@ -1,11 +1,11 @@
 // An f64 rounded to an f32, worked out from the bits: a cast takes only what the narrower format holds.
 
-use floats::rounding::nearest_shifted;
+use crate::rounding::nearest_shifted;
 ghost use mathlib.Core.Path.{_≡_};
 ghost use mathlib.Core.Bool.{Bool, cond};
 ghost use Prim.Native.Nat.{_+_, _^_, _<_, _≤_};
 ghost use lib.Ieee.{binary32, binary64, ofBits, ofFields};
-ghost use Rattle.numbers.specs.Narrow.{narrow};
+ghost use Rattle.floats.specs.Narrow.{narrow};
 
 // The binary32 pattern, without its sign, of the finite binary64 value with this exponent field and these 52 digits. The field
 // of 2^e is e + 1023, and in binary32 e + 127: the least binary32 value with a leading digit, 2^-126, has the field 897 here.

@@ -8,9 +8,9 @@ use lib.Dec.{T, leb, eqb, leb→le, nleb→lt}
 use lib.Ieee.{Float, nan, inf, binary32, binary64, fits, isNan, nanBits, ofBits, ofFields, toBits, ne, div}
 use lib.Ieee.Bits.{toBits-lt}
 use lib.Ieee.Compare.{differs-from-itself}
-use Rattle.numbers.specs.Narrow.{narrow}
-use Rattle.numbers.proofs.Narrowing.{Narrows, inf-bits}
+use Rattle.floats.specs.Narrow.{narrow}
+use Rattle.floats.proofs.Narrowing.{Narrows, inf-bits}
 use Rattle.floats.specs.FieldsLaws.{fields-of, at-top, no-nan, zero-by-zero}
 
 pub nan-narrows : (x : Float) → ne x x ≡ true → div binary32 (ofBits binary32 0) (ofBits binary32 0) ≡ narrow x
 unfolding narrow

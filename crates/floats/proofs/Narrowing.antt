@@ -16,10 +16,10 @@ use lib.Ieee.Bits.{ofBits-toBits}
 use lib.Ieee.Nearest.{closest, closest-same}
 use lib.Ieee.Scale.{round-same}
 use borrow.Author.Tests.{le-ltb, ne-eqb}
-use Rattle.numbers.specs.Narrow.{narrow}
+use Rattle.floats.specs.Narrow.{narrow}
 use Rattle.floats.specs.Fields.{significand}
 use Rattle.floats.specs.FieldsLaws.{field-value}
 use Rattle.floats.specs.RoundingLaws.{closest-zero, closest-le, closest-ge}
 
 -- ---- a value's narrowing, by its fraction
 

@@ -3,10 +3,10 @@
 use mathlib.Core.Path.{sym, ap, subst}
 use Prim.Native.Nat.{ℕ, _+_, _-_, _*_, _^_, _<_, _≤_}
 use native.Mathlib.Omega.{arith}
-use Rattle.numbers.proofs.Narrowing.{Narrows, tiny, low-le, small, top-le, large, over}
+use Rattle.floats.proofs.Narrowing.{Narrows, tiny, low-le, small, top-le, large, over}
 use borrow.Author.Needs.{needs}
-use Rattle.numbers.proofs.narrow.magnitude.Statement.{statement}
-use Rattle.numbers.proofs.narrow.magnitude.Tie as tie
+use Rattle.floats.proofs.narrow.magnitude.Statement.{statement}
+use Rattle.floats.proofs.narrow.magnitude.Tie as tie
 
 returns : tie.Need-returns
 returns c = let s = c .before in (search needs, tiny (s .args .field) (s .args .digits) (c .if1 .taken) (s .pre .1))
