@@ -1,0 +1,71 @@
+-- The four stores put the four bytes of the number: the law `four-stores`. Assumes nothing.
+use mathlib.Core.Path.{refl}
+use native.Mathlib.Omega.{arith}
+use lib.ListN.{length-set}
+use Rattle.buffer.specs.BufferLaws.{four-stores}
+use Rattle.plan_record.specs.PlanRecord.{le32}
+use borrow.Author.Needs.{needs}
+use Rattle.plan_record.proofs.put_u32_le.Statement.{statement}
+use Rattle.plan_record.proofs.put_u32_le.Tie as tie
+
+cast-out : tie.Need-cast-out
+cast-out c = search needs
+
+slice-write-out : tie.Need-slice-write-out
+slice-write-out c = search needs
+
+cast-out-2 : tie.Need-cast-out-2
+cast-out-2 c = search needs
+
+add-out : tie.Need-add-out
+add-out c = search needs
+
+slice-write-out-2 : tie.Need-slice-write-out-2
+slice-write-out-2 c = simp length-set (omega arith)
+
+cast-out-3 : tie.Need-cast-out-3
+cast-out-3 c = search needs
+
+add-out-2 : tie.Need-add-out-2
+add-out-2 c = search needs
+
+slice-write-out-3 : tie.Need-slice-write-out-3
+slice-write-out-3 c = simp length-set (omega arith)
+
+cast-out-4 : tie.Need-cast-out-4
+cast-out-4 c = search needs
+
+add-out-3 : tie.Need-add-out-3
+add-out-3 c = search needs
+
+slice-write-out-4 : tie.Need-slice-write-out-4
+slice-write-out-4 c = simp length-set (omega arith)
+
+add-result : tie.Need-add-result
+add-result c = search needs
+
+same-length : tie.Need-same-length
+same-length c = search needs
+
+returns : tie.Need-returns
+unfolding le32
+returns c = record { size = refl; place = refl; bytes = four-stores _ _ _ _ _ _ (omega arith) }
+
+pub put-u32-le-spec : {M : Type 1} → statement M
+put-u32-le-spec =
+    tie.close
+    (tie.spec
+    cast-out
+    slice-write-out
+    cast-out-2
+    add-out
+    slice-write-out-2
+    cast-out-3
+    add-out-2
+    slice-write-out-3
+    cast-out-4
+    add-out-3
+    slice-write-out-4
+    add-result
+    same-length
+    returns)

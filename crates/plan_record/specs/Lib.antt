@@ -1,0 +1,4 @@
+pub mod PlanRecord
+pub mod PlanRecordLaws
+pub mod RecordTold
+pub mod RecordToldLaws

@@ -1,0 +1,83 @@
+// The plan by value as the bytes of a C struct: numbers of 32 bits, the least significant byte first, and then the letters. The callers have checked
+// that there is room; each function answers the place after what it put.
+use numbers::i32_to_bits;
+use reading::Reading;
+ghost use mathlib.Core.List.{map};
+ghost use Prim.Native.Nat.{_+_, _*_, _≤_};
+ghost use lib.ListN.{length, take};
+ghost use Rattle.buffer.specs.Puts.{Puts};
+ghost use Rattle.words.specs.Words.{twosComplement32};
+ghost use Rattle.profile.specs.Plan.{maxLetters};
+ghost use Rattle.plan_record.specs.PlanRecord.{le32, le32s, recordNumbers, recordSize, planRecord};
+
+// The bytes of the struct: 26 numbers and the letters.
+pub const RECORD_SIZE: usize = 4 * 26 + profile::MAX_LETTERS;
+
+fn put_u32_le(out: &mut [u8], at: usize, value: u32) -> usize
+    requires { ⌜ at + 4 ≤ length (now out) ⌝ }
+    ensures { λ r. ⌜ Puts (now (out .entry)) at 4 (le32 value) r (now (out .exit)) ⌝ }
+{
+    out[at] = (value % 256) as u8;
+    out[at + 1] = (value / 256 % 256) as u8;
+    out[at + 2] = (value / 65536 % 256) as u8;
+    out[at + 3] = (value / 16777216 % 256) as u8;
+    at + 4
+}
+
+fn put_u32s_le(out: &mut [u8], at: usize, values: &[u32]) -> usize
+    requires { ⌜ at + 4 * length (now values) ≤ length (now out) ⌝ }
+    ensures { λ r. ⌜ Puts (now (out .entry)) at (4 * length (now (values .entry))) (le32s (now (values .entry))) r (now (out .exit)) ⌝ }
+{
+    let mut next = at;
+    let mut i = 0;
+    while i < values.len() {
+        next = put_u32_le(out, next, values[i]);
+        i += 1;
+    }
+    next
+}
+
+fn put_nine(out: &mut [u8], at: usize, values: [i32; 9]) -> usize
+    requires { ⌜ at + 36 ≤ length (now out) ⌝ }
+    ensures { λ r. ⌜ Puts (now (out .entry)) at 36 (le32s (map twosComplement32 values)) r (now (out .exit)) ⌝ }
+{
+    let mut next = at;
+    let mut i = 0;
+    while i < 9 {
+        next = put_u32_le(out, next, i32_to_bits(values[i]));
+        i += 1;
+    }
+    next
+}
+
+// The numbers before `chad`.
+fn put_first(out: &mut [u8], at: usize, plan: Reading) -> usize
+    requires { ⌜ at + 28 ≤ length (now out) ⌝ }
+    ensures { λ r. ⌜ Puts (now (out .entry)) at 28 (le32s (take 7 (recordNumbers plan))) r (now (out .exit)) ⌝ }
+{
+    let numbers = [
+        plan.kind,
+        plan.intent,
+        plan.curve,
+        i32_to_bits(plan.gamma),
+        plan.cicp,
+        i32_to_bits(plan.white_x),
+        i32_to_bits(plan.white_z),
+    ];
+    put_u32s_le(out, at, &numbers)
+}
+
+pub fn put_plan_record(out: &mut [u8], at: usize, plan: Reading) -> usize
+    requires { ⌜ (at + recordSize ≤ length (now out)) × (plan .letters ≤ maxLetters) ⌝ }
+    ensures { λ r. ⌜ Puts (now (out .entry)) at recordSize (planRecord plan) r (now (out .exit)) ⌝ }
+{
+    let letters = plan.letters as u32;
+    let chad = plan.chad;
+    let columns = plan.columns;
+    let text = plan.text;
+    let at = put_first(out, at, plan);
+    let at = put_nine(out, at, chad);
+    let at = put_nine(out, at, columns);
+    let at = put_u32_le(out, at, letters);
+    buffer::put_bytes(out, at, &text)
+}
