@@ -10,8 +10,10 @@ ghost use Rattle.words.specs.Words.{twosComplement32};
 ghost use Rattle.profile.specs.Plan.{maxLetters};
 ghost use Rattle.plan_record.specs.PlanRecord.{le32, le32s, recordNumbers, recordSize, planRecord};
 
-// The bytes of the struct: 26 numbers and the letters.
-pub const RECORD_SIZE: usize = 4 * 26 + profile::MAX_LETTERS;
+// The numbers of the struct, and its bytes.
+const NUMBER_COUNT: usize = 26;
+
+pub const RECORD_SIZE: usize = 4 * NUMBER_COUNT + profile::MAX_LETTERS;
 
 fn put_u32_le(out: &mut [u8], at: usize, value: u32) -> usize
     requires { ⌜ at + 4 ≤ length (now out) ⌝ }

@@ -4,6 +4,7 @@ pub mod finder;
 use comparisons::header_is;
 use comparisons::table_is;
 pub use finder::find;
+pub use finder::find_line;
 use plan_checks::intent_is;
 use profile::MAX_LETTERS;
 use profile::Shape;

@@ -14,9 +14,9 @@ use Rattle.profile.specs.Layout.{elements, slots, layout}
 use Rattle.profile.specs.LayoutLaws.{length-id}
 use Rattle.reader_spec.specs.Table.{tagsOf, entriesOf, absent, elementAt}
 use Rattle.reader_spec.specs.TableLaws.{next-body, first-element}
-use Rattle.reader_spec.specs.LinesLaws.{lineAt, linesFrom, from-line, from-none, from-first}
+use Rattle.reader_spec.specs.LinesLaws.{lineAt, linesFrom, from-line, from-none}
 use Rattle.reader_spec.specs.FileLaws.{length-slots, tags-withId, entries-withId, drop-withId}
-use Rattle.reader_spec.specs.RefusalList.{Check, refused, accepted}
+use Rattle.reader_spec.specs.RefusalList.{Answer, Check, refused, accepted}
 use Rattle.reader_spec.specs.Read.{read}
 use Rattle.reader_spec.specs.Owners.{In, Span, span, spans, end}
 use Rattle.reader_spec.specs.OwnersLaws.{place-bounds, lines-places}
@@ -43,12 +43,9 @@ module _ (f s : List ℕ) where
   unfolding found
   found-refused c e = rw e
 
-  found-accepted : (p : Plan) → read f ≡ accepted p → found f s ≡ lineOf s (entriesOf f) absent
+  pub found-accepted : (p : Plan) → read f ≡ accepted p → found f s ≡ lineOf s (entriesOf f) absent
   unfolding found
   found-accepted p e = rw e
-
-  pub found-first : (p : Plan) → read f ≡ accepted p → found f s ≡ lineOf s (linesFrom f 0) absent
-  found-first p e = found-accepted p e ∙ ap (λ es. lineOf s es absent) (from-first f)
 
 -- ---- in an accepted file
 
@@ -90,8 +87,13 @@ line-within s n (e ∷ es) h = either (same (e .signature) s) (line-within s n e
 pub table-within : (f : List ℕ) (p : Plan) → read f ≡ accepted p → lineStart (tagsOf f) ≤ length f
 table-within f p e = accepted-within f p e .table
 
-pub found-within : (f s : List ℕ) (p : Plan) → read f ≡ accepted p → found f s .offset + found f s .size ≤ length f
-found-within f s p e = rw (found-accepted f s p e) (line-within s (length f) (entriesOf f) (accepted-within f p e .line))
+-- the element of the finder's line lies within every file: of a refused one it has no bytes
+pub found-within : (f s : List ℕ) → found f s .offset + found f s .size ≤ length f
+found-within f s = go (read f) refl
+  where
+    go : (a : Answer) → read f ≡ a → found f s .offset + found f s .size ≤ length f
+    go (accepted p) e = rw (found-accepted f s p e) (line-within s (length f) (entriesOf f) (accepted-within f p e .line))
+    go (refused c) e = rw (found-refused f s c e) (omega arith)
 
 -- ---- the element of a plan
 
