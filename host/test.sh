@@ -1,20 +1,113 @@
 #!/bin/sh
-# Builds the static library and the C++ test, and runs it. Then holds the id of each profile that it wrote against a plain MD5, and has other
-# programs open them, where they are installed: exiftool (libimage-exiftool-perl) and lcms2's transicc (liblcms2-utils).
+# Tries the library as a user of C or C++ has it: installs it into a folder by `make install`, and builds all that follows from there.
+# The calls (test.cpp), the C++ header (test_hpp.cpp), the stack that a call takes (stack.c), what the library defines and needs, the examples by
+# pkg-config, the id of each profile against a plain MD5. Other programs open the profiles where they are installed; what is skipped is said.
 #
 #   host/test.sh [OUT]
+#
+# OUT, for what is built and written, is target/host if left out.
 set -eu
+
+fail() {
+    echo "host/test.sh: $*" >&2
+    exit 1
+}
+skipped() { # WHAT PACKAGE
+    echo "skipped: $1, install $2"
+}
+
+if [ $# -gt 1 ] || [ "${1-x}" = '' ]; then
+    echo "host/test.sh [OUT]" >&2
+    exit 2
+fi
+case ${1-} in
+-*) echo "host/test.sh: no word $1; host/test.sh [OUT]" >&2 && exit 2 ;;
+esac
+for tool in make cc c++ nm md5sum; do
+    command -v "$tool" >/dev/null || fail "$tool is not installed"
+done
 
 here=$(cd "$(dirname "$0")" && pwd)
 top=$(cd "$here/.." && pwd)
 out=${1:-$top/target/host}
 mkdir -p "$out"
+out=$(cd "$out" && pwd)
+prefix=$out/prefix
+rm -rf "$prefix"
+rm -f "$out"/*.icc
 
-(cd "$top" && rt staticlib host) >"$out/staticlib.log"
-# The header is C as well as C++.
-printf '#include "merqyduk.h"\n' | cc -std=c99 -Wall -Wextra -pedantic -I"$top/include" -fsyntax-only -x c -
-c++ -std=c++17 -O2 -Wall -Wextra -I"$top/include" "$here/test.cpp" "$top/target/staticlib/libhost.a" -o "$out/test"
+make -C "$top" install PREFIX="$prefix" >"$out/install.log" || {
+    tail -n 20 "$out/install.log" >&2
+    fail "the library was not installed; $out/install.log has what make says"
+}
+library=$prefix/lib/libmerqyduk.a
+echo "installed: merqyduk $(sed -n 's/^Version: //p' "$prefix/lib/pkgconfig/merqyduk.pc")"
+
+# ---- the headers in each language, without a warning
+
+warnings='-Wall -Wextra -Wshadow -Wconversion -Werror -pedantic'
+for standard in c99 c11; do
+    printf '#include <merqyduk.h>\n' | cc -std=$standard $warnings -I"$prefix/include" -fsyntax-only -x c - || fail "merqyduk.h in $standard"
+done
+for standard in c++11 c++17; do
+    for header in merqyduk.h merqyduk.hpp; do
+        printf '#include <%s>\n' $header | c++ -std=$standard $warnings -fno-exceptions -I"$prefix/include" -fsyntax-only -x c++ - ||
+            fail "$header in $standard"
+    done
+done
+echo "headers: no warning in C99, C11, C++11 and C++17"
+
+# ---- what the library defines and needs
+
+# Data that can be written, or names that are not ours, would break what merqyduk.h says of threads.
+nm "$library" >"$out/symbols"
+if grep -E ' [BbDdCGgSsVvWw] ' "$out/symbols"; then
+    fail "the library has data that can be written (above)"
+fi
+if grep ' [A-TV-Z] ' "$out/symbols" | grep -v ' T merqyduk_'; then
+    fail "the library defines a name that is not its own (above)"
+fi
+if grep ' U ' "$out/symbols" | grep -v -E ' U (memcpy|memset)$'; then
+    fail "the library needs more than memcpy and memset (above)"
+fi
+echo "library: no data that can be written; needs$(sed -n 's/.* U / /p' "$out/symbols" | tr -d '\n')"
+
+# ---- the calls
+
+c++ -std=c++17 -O2 -Wall -Wextra -I"$prefix/include" "$here/test.cpp" "$library" -o "$out/test"
 "$out/test" "$out"
+c++ -std=c++11 -O2 -Wall -Wextra -I"$prefix/include" "$here/test_hpp.cpp" "$library" -o "$out/test_hpp"
+"$out/test_hpp"
+cc -std=gnu11 -O2 -Wall -Wextra -I"$prefix/include" "$here/stack.c" "$library" -Wl,-z,now -o "$out/stack"
+"$out/stack"
+
+# ---- the examples, as a user builds them
+
+if command -v pkg-config >/dev/null; then
+    flags=$(PKG_CONFIG_PATH=$prefix/lib/pkgconfig pkg-config --cflags --libs merqyduk) || fail "pkg-config does not find merqyduk"
+    for language in c cpp; do
+        folder=$out/example-$language
+        rm -rf "$folder"
+        mkdir -p "$folder"
+        case $language in
+        c) compiler='cc -std=c99' ;;
+        cpp) compiler='c++ -std=c++11' ;;
+        esac
+        # The flags and the compiler are several words each.
+        $compiler -Wall -Wextra -o "$folder/profiles" "$top/example/profiles.$language" $flags || fail "example/profiles.$language was not built"
+        (cd "$folder" && ./profiles >said) || fail "example/profiles.$language failed; $folder/said has what it said"
+        cmp "$folder/srgb.icc" "$out/srgb.icc" || fail "example/profiles.$language writes another sRGB than the test"
+        [ "$(grep -c ': refused 1, the curve is PQ or HLG$' "$folder/said")" -eq 1 ] || fail "example/profiles.$language shows no refusal"
+    done
+    cmp "$out/example-c/said" "$out/example-cpp/said" && cmp "$out/example-c/own.icc" "$out/example-cpp/own.icc" ||
+        fail "the examples in C and in C++ differ"
+    echo "examples: built by pkg-config, alike in C and C++:"
+    cat "$out/example-c/said"
+else
+    skipped "the examples, which are built by pkg-config" pkg-config
+fi
+
+# ---- the profiles
 
 # MD5 of a profile with bytes 44 to 47, 64 to 67 and 84 to 99 zero.
 blanked_md5() {
@@ -29,20 +122,35 @@ blanked_md5() {
     } | md5sum | cut -c 1-32
 }
 
+count=0
 for profile in "$out"/*.icc; do
     id=$(tail -c +85 "$profile" | head -c 16 | od -An -tx1 | tr -d ' \n')
-    [ "$id" = "$(blanked_md5 "$profile")" ] || { echo "the id of $profile is wrong"; exit 1; }
-    if command -v exiftool >/dev/null; then
-        [ "$(exiftool -s3 -validate "$profile")" = OK ] || { echo "exiftool finds fault with $profile"; exit 1; }
-    fi
+    [ "$id" = "$(blanked_md5 "$profile")" ] || fail "the id of $profile is wrong"
+    count=$((count + 1))
 done
-echo "ids right"
+echo "ids: $count of $count are the MD5 of their profile"
+
+if command -v exiftool >/dev/null; then
+    for profile in "$out"/*.icc; do
+        said=$(exiftool -s3 -validate "$profile") || fail "exiftool does not open $profile"
+        [ "$said" = OK ] || fail "exiftool says of $profile: $said"
+    done
+    echo "exiftool: $count of $count are valid"
+else
+    skipped "exiftool's view of the profiles" libimage-exiftool-perl
+fi
 
 # The white of each, as lcms2 has it in the PCS.
 if command -v transicc >/dev/null; then
-    for profile in srgb srgb-relative own; do
-        printf '255 255 255\n' | transicc -i "$out/$profile.icc" -o '*XYZ' 2>/dev/null | grep X=
+    for profile in srgb srgb-relative own gray xyb; do
+        case $profile in
+        gray) white=255 ;;
+        *) white='255 255 255' ;;
+        esac
+        said=$(echo "$white" | transicc -i "$out/$profile.icc" -o '*XYZ' 2>&1 | grep X=) || fail "transicc does not read $profile.icc"
+        echo "lcms2: the white of $profile.icc is $said"
     done
-    printf '255\n' | transicc -i "$out/gray.icc" -o '*XYZ' 2>/dev/null | grep X=
-    printf '255 255 255\n' | transicc -i "$out/xyb.icc" -o '*XYZ' 2>/dev/null | grep X=
+else
+    skipped "lcms2's view of the profiles" liblcms2-utils
 fi
+echo "host/test.sh: passed"

@@ -1,30 +1,57 @@
-/* Merqyduk: ICC profiles of color encodings, for C and C++.
+/* Merqyduk: ICC profiles of color encodings, for C (C99 or later) and C++. For C++ alone there is
+ * merqyduk.hpp beside this file.
  *
- * Link target/staticlib/libhost.a (rt staticlib host).
+ * `make install` puts the headers, libmerqyduk.a and merqyduk.pc in place; then a program is built by
+ *    cc -o program program.c $(pkg-config --cflags --libs merqyduk)
  *
- * A call that writes answers the length (284 to 1200) of the profile, which then stands at the front of the output; the
- * rest of the output is unchanged. Or it answers a number below 100, and all of the output is unchanged:
- *    0  the job has no such entry
- *    1  the curve is PQ or HLG
- *    2  XYB with an intent other than Perceptual
- *    3  gray with |wy| below 1e-12
- *    4  RGB with a white outside 0 <= wx <= 1, 0 < wy <= 1, or one that cannot be adapted
- *    5  a number of the chromatic adaptation does not fit
- *    6  the primaries' matrix is singular
- *    7  a number of a column, or of a gray white, does not fit
- *    8  the reciprocal of gamma does not fit
- *    9  the output is shorter than the profile
- *   41  the job ends early: a count or an entry is missing or cut
- *   42  the job has bytes left after its third section
- *   43  a kind, curve or intent has no meaning
- * 41, 42 and 43 are tested first, in this order; then 0; then 1 to 9, in this order.
+ * Answers. A call that writes answers the length of the profile, MERQYDUK_MIN_PROFILE to
+ * MERQYDUK_MAX_PROFILE, which then stands at the front of the output; the rest of the output is unchanged. Or
+ * it answers a number below 100, and all of the output is unchanged: one of MERQYDUK_REFUSED_..., or 0 where
+ * the job has no such entry. Refusals are tested in this order: 41, 42, 43; then 0; then 1 to 9. An output of
+ * MERQYDUK_MAX_PROFILE bytes is enough for every profile.
  *
- * out may be null where out_len is 0, and job where job_len is 0. What a call writes to may not overlap the job. */
+ * Id. A profile's id is its bytes 84 to 99, MERQYDUK_ID_SIZE bytes from MERQYDUK_ID_OFFSET on: MD5 of the
+ * profile with bytes 44 to 47, 64 to 67 and 84 to 99 zero.
+ *
+ * Gamma is the exponent that encodes, as jxl-rs has it: the curve in the profile decodes, and is x^(1/gamma).
+ * For a display gamma of 2.2 pass 1/2.2f, which is about 0.45455.
+ *
+ * Pointers. out may be null where out_len is 0, and job where job_len is 0. What a call writes to may not
+ * overlap the job.
+ *
+ * Threads. Calls are reentrant: the library has no data that is written, no heap, no lock and no system call,
+ * and calls nothing but memcpy and memset. Any number of threads may call at once, each with an output of its
+ * own.
+ *
+ * Stack. A call takes at most MERQYDUK_STACK bytes. Measured by host/stack.c, with arguments and memcpy:
+ * merqyduk_write_gray 2,744, merqyduk_write_rgb 2,776, merqyduk_write_xyb 2,744, merqyduk_job 296,
+ * merqyduk_job_profile 2,904. Not counted is the dynamic linker, which takes about 2,600 more where a
+ * program's first memcpy is looked up in the call; -Wl,-z,now has it looked up before.
+ *
+ * Platform: Linux on any x86-64 processor. The calls go by the floating-point environment that a program
+ * starts with: rounding to nearest, exceptions masked, subnormal numbers kept. A program linked with
+ * -ffast-math loses subnormal numbers, and a white or gamma that is one is then taken as 0. */
 #ifndef MERQYDUK_H
 #define MERQYDUK_H
 
 #include <stddef.h>
 #include <stdint.h>
+
+#define MERQYDUK_VERSION_MAJOR 0
+#define MERQYDUK_VERSION_MINOR 9
+#define MERQYDUK_VERSION_PATCH 0
+#define MERQYDUK_VERSION_STRING "0.9.0"
+
+/* The lengths of the profiles that are written, in bytes. */
+#define MERQYDUK_MIN_PROFILE 284
+#define MERQYDUK_MAX_PROFILE 1200
+
+/* Where a profile's id stands, and its bytes. */
+#define MERQYDUK_ID_OFFSET 84
+#define MERQYDUK_ID_SIZE 16
+
+/* Bytes of stack that are enough for every call. */
+#define MERQYDUK_STACK 4096
 
 #ifdef __cplusplus
 extern "C" {
@@ -64,6 +91,83 @@ enum {
     MERQYDUK_INTENT_SATURATION = 2,
     MERQYDUK_INTENT_ABSOLUTE = 3
 };
+
+/* Refusals. merqyduk_refusal_text says what each means. */
+enum {
+    /* of writing */
+    MERQYDUK_REFUSED_CURVE = 1,
+    MERQYDUK_REFUSED_XYB_INTENT = 2,
+    MERQYDUK_REFUSED_GRAY_WHITE = 3,
+    MERQYDUK_REFUSED_RGB_WHITE = 4,
+    MERQYDUK_REFUSED_ADAPTATION = 5,
+    MERQYDUK_REFUSED_PRIMARIES = 6,
+    MERQYDUK_REFUSED_XYZ = 7,
+    MERQYDUK_REFUSED_GAMMA = 8,
+    MERQYDUK_REFUSED_OUTPUT = 9,
+    /* of reading a file */
+    MERQYDUK_REFUSED_SHORT_FILE = 21,
+    MERQYDUK_REFUSED_SIZE_FIELD = 22,
+    MERQYDUK_REFUSED_HEADER = 23,
+    MERQYDUK_REFUSED_INTENT_FIELD = 24,
+    MERQYDUK_REFUSED_TAG_TABLE = 25,
+    MERQYDUK_REFUSED_ELEMENTS = 26,
+    MERQYDUK_REFUSED_RANGE = 27,
+    MERQYDUK_REFUSED_ID = 28,
+    /* of a job; 43 of any other call as well */
+    MERQYDUK_REFUSED_JOB_EARLY = 41,
+    MERQYDUK_REFUSED_JOB_LEFT = 42,
+    MERQYDUK_REFUSED_MEANING = 43
+};
+
+/* What a refusal means, as a constant ASCII text; any number has one. */
+static inline const char *merqyduk_refusal_text(uint32_t refusal) {
+    switch (refusal) {
+    case MERQYDUK_REFUSED_CURVE:
+        return "the curve is PQ or HLG";
+    case MERQYDUK_REFUSED_XYB_INTENT:
+        return "XYB with an intent other than Perceptual";
+    case MERQYDUK_REFUSED_GRAY_WHITE:
+        return "gray with |wy| below 1e-12";
+    case MERQYDUK_REFUSED_RGB_WHITE:
+        return "RGB with a white outside 0 <= wx <= 1, 0 < wy <= 1, or one that cannot be adapted";
+    case MERQYDUK_REFUSED_ADAPTATION:
+        return "a number of the chromatic adaptation does not fit";
+    case MERQYDUK_REFUSED_PRIMARIES:
+        return "the primaries' matrix is singular";
+    case MERQYDUK_REFUSED_XYZ:
+        return "a number of a column, or of a gray white, does not fit";
+    case MERQYDUK_REFUSED_GAMMA:
+        return "the reciprocal of gamma does not fit";
+    case MERQYDUK_REFUSED_OUTPUT:
+        return "the output is shorter than what is to be written";
+    case MERQYDUK_REFUSED_SHORT_FILE:
+        return "the file is shorter than 132 bytes";
+    case MERQYDUK_REFUSED_SIZE_FIELD:
+        return "the size field differs from the length of the file";
+    case MERQYDUK_REFUSED_HEADER:
+        return "class and space are none that is written, or another byte of the header differs";
+    case MERQYDUK_REFUSED_INTENT_FIELD:
+        return "the intent is above 3, or XYB has one other than Perceptual";
+    case MERQYDUK_REFUSED_TAG_TABLE:
+        return "the tag table or the length is that of no profile of this class and space";
+    case MERQYDUK_REFUSED_ELEMENTS:
+        return "a byte of an element or of padding is none that is written";
+    case MERQYDUK_REFUSED_RANGE:
+        return "a number is outside its range";
+    case MERQYDUK_REFUSED_ID:
+        return "the id is wrong";
+    case MERQYDUK_REFUSED_JOB_EARLY:
+        return "the job ends early: a count or an entry is missing or cut";
+    case MERQYDUK_REFUSED_JOB_LEFT:
+        return "the job has bytes left after its third section";
+    case MERQYDUK_REFUSED_MEANING:
+        return "a kind, curve or intent has no meaning";
+    case 0:
+        return "no refusal, or no such entry in the job";
+    default:
+        return "not the number of a refusal";
+    }
+}
 
 uint32_t merqyduk_write_gray(uint32_t white, float wx, float wy, uint32_t curve, float gamma, uint32_t intent,
                              uint8_t *out, size_t out_len);

@@ -1,0 +1,127 @@
+/* Measures how much stack each call of merqyduk.h takes, with what it calls: paints the stack below, calls, and looks how far down the paint is
+ * gone. The largest of many encodings is printed for each call. Fails where one is above MERQYDUK_STACK. Link with -Wl,-z,now: a first
+ * call through the dynamic linker would count as well. */
+#include "merqyduk.h"
+
+#include <stdio.h>
+#include <string.h>
+
+enum { DEPTH = 16384, PAINT = 0xa5 };
+
+struct arguments {
+    uint32_t white, primaries, curve, intent;
+    float floats[9]; /* wx wy rx ry gx gy bx by gamma */
+    const uint8_t *job;
+    size_t job_len, i;
+    uint8_t out[MERQYDUK_MAX_PROFILE];
+};
+
+typedef void call(struct arguments *a);
+
+static void nothing(struct arguments *a) { (void)a; }
+
+static void gray(struct arguments *a) {
+    merqyduk_write_gray(a->white, a->floats[0], a->floats[1], a->curve, a->floats[8], a->intent, a->out, sizeof a->out);
+}
+
+static void rgb(struct arguments *a) {
+    const float *f = a->floats;
+    merqyduk_write_rgb(a->white, f[0], f[1], a->primaries, f[2], f[3], f[4], f[5], f[6], f[7], a->curve, f[8], a->intent,
+                       a->out, sizeof a->out);
+}
+
+static void xyb(struct arguments *a) { merqyduk_write_xyb(a->intent, a->out, sizeof a->out); }
+
+static void job(struct arguments *a) {
+    uint32_t entries;
+    merqyduk_job(a->job, a->job_len, &entries);
+}
+
+static void job_profile(struct arguments *a) {
+    merqyduk_job_profile(a->job, a->job_len, a->i, a->out, sizeof a->out);
+}
+
+/* The bytes below this function's own stack that the call has changed. */
+__attribute__((noinline)) static size_t depth(call *make, struct arguments *a) {
+    volatile uint8_t *top;
+    __asm__ volatile("mov %%rsp, %0" : "=r"(top));
+    for (size_t i = 1; i <= DEPTH; i++) top[-(ptrdiff_t)i] = PAINT;
+    make(a);
+    size_t deepest = DEPTH;
+    while (deepest > 0 && top[-(ptrdiff_t)deepest] == PAINT) deepest--;
+    return deepest;
+}
+
+static uint32_t random_bits(void) {
+    static uint64_t state = 1;
+    state = state * 6364136223846793005u + 1442695040888963407u;
+    return (uint32_t)(state >> 32);
+}
+
+/* A coordinate or a gamma: in range, or any float. */
+static float random_float(void) {
+    uint32_t bits = random_bits();
+    float any;
+    memcpy(&any, &bits, sizeof any);
+    return random_bits() % 4 ? (float)(random_bits() >> 8) / 16777216 : any;
+}
+
+static void put_float(uint8_t *at, float value) {
+    uint32_t bits;
+    memcpy(&bits, &value, sizeof bits);
+    for (int i = 0; i < 4; i++) at[i] = (uint8_t)(bits >> (24 - 8 * i));
+}
+
+/* A job with the encoding as its gray, RGB and XYB entry. */
+static void fill_job(const struct arguments *a, uint8_t bytes[59]) {
+    memset(bytes, 0, 59);
+    bytes[0] = bytes[16] = bytes[57] = 1;
+    for (int rgb = 0; rgb < 2; rgb++) {
+        uint8_t *entry = bytes + (rgb ? 17 : 1);
+        entry[0] = (uint8_t)a->white;
+        put_float(entry + 1, a->floats[0]);
+        put_float(entry + 5, a->floats[1]);
+        entry += 9;
+        if (rgb) {
+            *entry++ = (uint8_t)a->primaries;
+            for (int i = 2; i < 8; i++, entry += 4) put_float(entry, a->floats[i]);
+        }
+        entry[0] = (uint8_t)a->curve;
+        put_float(entry + 1, a->floats[8]);
+        entry[5] = (uint8_t)a->intent;
+    }
+}
+
+int main(void) {
+    static const struct {
+        const char *name;
+        call *make;
+    } calls[] = {{"nothing", nothing},         {"merqyduk_write_gray", gray}, {"merqyduk_write_rgb", rgb},
+                 {"merqyduk_write_xyb", xyb}, {"merqyduk_job", job},         {"merqyduk_job_profile", job_profile}};
+    enum { CALLS = sizeof calls / sizeof calls[0], ENCODINGS = 10000 };
+    size_t most[CALLS] = {0};
+    static struct arguments a;
+    uint8_t bytes[59];
+    a.job = bytes;
+    a.job_len = sizeof bytes;
+    for (int n = 0; n < ENCODINGS; n++) {
+        a.white = random_bits() % 4;
+        a.primaries = random_bits() % 4;
+        a.curve = random_bits() % 7;
+        a.intent = random_bits() % 4;
+        for (int i = 0; i < 9; i++) a.floats[i] = random_float();
+        a.i = random_bits() % 4;
+        fill_job(&a, bytes);
+        for (int i = 0; i < CALLS; i++) {
+            size_t d = depth(calls[i].make, &a);
+            if (d > most[i]) most[i] = d;
+        }
+    }
+    int failed = 0;
+    for (int i = 0; i < CALLS; i++) {
+        printf("stack: %-21s %5zu bytes at most over %d encodings\n", calls[i].name, most[i], ENCODINGS);
+        if (most[i] > MERQYDUK_STACK) failed = 1;
+    }
+    if (failed) printf("FAILED: a call takes more than MERQYDUK_STACK, %d bytes\n", MERQYDUK_STACK);
+    return failed;
+}

@@ -1,0 +1,131 @@
+// Holds the calls of include/merqyduk.hpp against those of include/merqyduk.h, and the texts of all refusals.
+#include "merqyduk.hpp"
+
+#include <cstdio>
+#include <cstring>
+#include <set>
+#include <string>
+
+using namespace merqyduk;
+
+namespace {
+
+int tried = 0;
+int failed = 0;
+
+void expect(bool ok, const std::string &what) {
+    tried++;
+    if (!ok) {
+        failed++;
+        std::printf("FAILED: %s\n", what.c_str());
+    }
+}
+
+// Every way to write the encoding answers and writes what the C call did: its answer, and the front of its output.
+void same(const std::string &name, const Encoding &encoding, std::uint32_t answer, const std::uint8_t *bytes) {
+    const std::size_t length = answer < MERQYDUK_MIN_PROFILE ? 0 : answer;
+    const auto holds = [&](const Answer &a, const std::uint8_t *at) {
+        return bool(a) == (length > 0) && a.length() == length && a.refusal() == (length > 0 ? 0 : answer) &&
+               std::memcmp(at, bytes, length) == 0;
+    };
+    std::uint8_t lent[MERQYDUK_MAX_PROFILE];
+    expect(holds(write(encoding, lent, sizeof lent), lent), name + " into a lent output");
+    std::array<std::uint8_t, MERQYDUK_MAX_PROFILE> array;
+    expect(holds(write(encoding, array), array.data()), name + " into an array");
+    std::vector<std::uint8_t> vector(3, 7);
+    const Answer into_vector = write(encoding, vector);
+    expect(holds(into_vector, vector.data()), name + " into a vector");
+    expect(length > 0 ? vector.size() == length : vector == std::vector<std::uint8_t>(3, 7), name + ": the vector");
+    const Profile profile = write(encoding);
+    expect(bool(profile) == (length > 0) && holds(profile.answer(), profile.data()), name + " by value");
+    expect(profile.size() == length && std::size_t(profile.end() - profile.begin()) == length, name + ": its length");
+    const Id zeros{};
+    expect(length > 0 ? std::memcmp(profile.id().data(), bytes + 84, 16) == 0 : profile.id() == zeros, name + ": its id");
+    expect(std::string(profile.answer().text()) == merqyduk_refusal_text(answer), name + ": its text");
+}
+
+void encodings() {
+    std::uint8_t out[MERQYDUK_MAX_PROFILE];
+    const White whites[] = {White::d65(), White::e(), White::dci(), White::own(0.3457f, 0.3585f)};
+    const Primaries primaries[] = {Primaries::srgb(), Primaries::bt2100(), Primaries::p3(),
+                                   Primaries::own(0.64f, 0.33f, 0.21f, 0.71f, 0.15f, 0.06f)};
+    const Curve curves[] = {Curve::bt709(), Curve::linear(), Curve::srgb(), Curve::pq(),
+                            Curve::dci(),   Curve::hlg(),    Curve::encoding_gamma(0.45f)};
+    // The numbers are those of the job form, which are the places in these lists.
+    for (std::uint32_t w = 0; w < 4; w++) {
+        for (std::uint32_t c = 0; c < 7; c++) {
+            for (std::uint32_t i = 0; i < 4; i++) {
+                const Intent intent = static_cast<Intent>(i);
+                const std::string name = std::to_string(w) + " " + std::to_string(c) + " " + std::to_string(i);
+                std::uint32_t answer = merqyduk_write_gray(w, 0.3457f, 0.3585f, c, 0.45f, i, out, sizeof out);
+                same("gray " + name, Encoding::gray(whites[w], curves[c], intent), answer, out);
+                for (std::uint32_t p = 0; p < 4; p++) {
+                    answer = merqyduk_write_rgb(w, 0.3457f, 0.3585f, p, 0.64f, 0.33f, 0.21f, 0.71f, 0.15f, 0.06f, c,
+                                                0.45f, i, out, sizeof out);
+                    same("RGB " + std::to_string(p) + " " + name,
+                         Encoding::rgb(whites[w], primaries[p], curves[c], intent), answer, out);
+                }
+            }
+        }
+    }
+    for (std::uint32_t i = 0; i < 5; i++)
+        same("XYB " + std::to_string(i), Encoding::xyb(static_cast<Intent>(i)), merqyduk_write_xyb(i, out, sizeof out),
+             out);
+    expect(write(Encoding::srgb()).size() == 504, "sRGB");
+    expect(write(Encoding::srgb(Intent::relative)).size() == 536, "sRGB Relative");
+    expect(write(Encoding::xyb()).size() == 720, "XYB");
+    merqyduk_write_rgb(0, 0, 0, 2, 0, 0, 0, 0, 0, 0, 2, 0, 0, out, sizeof out);
+    expect(std::memcmp(write(Encoding::display_p3()).data(), out, 500) == 0, "Display P3");
+    // The curve of a display gamma of 2.2 is the fixed number of 2.2: the last element, 12 bytes from its start on.
+    const Profile display = write(Encoding::gray(White::d65(), Curve::display_gamma(2.2f), Intent::relative));
+    const std::uint8_t number[] = {0, 2, 0x33, 0x33};
+    expect(display && std::memcmp(display.end() - 4, number, 4) == 0, "a display gamma of 2.2");
+    std::array<std::uint8_t, 503> small;
+    expect(write(Encoding::srgb(), small).refusal() == MERQYDUK_REFUSED_OUTPUT, "503 bytes for sRGB");
+}
+
+void jobs() {
+    // One RGB entry, sRGB, and one XYB entry, Relative.
+    std::array<std::uint8_t, 44> bytes{};
+    bytes[1] = bytes[42] = bytes[43] = 1;
+    bytes[36] = 2;
+    const Job job(bytes.data(), bytes.size());
+    expect(job && job.refusal() == 0 && job.entries() == 2, "a job");
+    const Profile first = job.profile(0);
+    const Profile srgb = write(Encoding::srgb());
+    expect(first && std::vector<std::uint8_t>(first.begin(), first.end()) ==
+                        std::vector<std::uint8_t>(srgb.begin(), srgb.end()),
+           "its first entry");
+    std::uint8_t out[504];
+    expect(job.write(0, out, sizeof out).length() == 504 && id(out) == srgb.id(), "its first entry, lent");
+    expect(job.profile(1).answer().refusal() == MERQYDUK_REFUSED_XYB_INTENT, "its second entry");
+    expect(!job.profile(2) && job.profile(2).answer().refusal() == 0, "no third entry");
+    const Job cut(bytes.data(), 43);
+    expect(!cut && cut.refusal() == MERQYDUK_REFUSED_JOB_EARLY && cut.entries() == 0, "a cut job");
+    expect(std::string(cut.text()) == merqyduk_refusal_text(41), "its text");
+    expect(cut.profile(0).answer().refusal() == MERQYDUK_REFUSED_JOB_EARLY, "an entry of a cut job");
+}
+
+// The refusals of 01 have texts of their own, and no other number has one.
+void texts() {
+    const std::string other = merqyduk_refusal_text(0xffffffffu);
+    std::set<std::string> seen{other};
+    int named = 0;
+    for (std::uint32_t n = 0; n <= 1300; n++) {
+        const bool known = n <= 9 || (n >= 21 && n <= 28) || (n >= 41 && n <= 43);
+        const std::string text = merqyduk_refusal_text(n);
+        expect(known == (text != other), "the text of " + std::to_string(n));
+        if (known && seen.insert(text).second) named++;
+    }
+    expect(named == 21, "texts that differ");
+}
+
+} // namespace
+
+int main() {
+    encodings();
+    jobs();
+    texts();
+    std::printf("merqyduk.hpp: %d of %d\n", tried - failed, tried);
+    return failed == 0 ? 0 : 1;
+}

@@ -1,0 +1,218 @@
+// Merqyduk for C++11 and later: the calls of merqyduk.h with an encoding as one value. Header only; it throws nothing of its own (a
+// std::vector may run out of memory). merqyduk.h says what the answers, the id and a gamma mean.
+//
+//    auto profile = merqyduk::write(merqyduk::Encoding::srgb());
+//    if (profile) save(profile.data(), profile.size());
+//    else         report(profile.answer().text());
+#ifndef MERQYDUK_HPP
+#define MERQYDUK_HPP
+
+#include "merqyduk.h"
+
+#include <algorithm>
+#include <array>
+#include <cstddef>
+#include <cstdint>
+#include <vector>
+
+namespace merqyduk {
+
+// ---- what a profile is written for
+
+struct White {
+    std::uint32_t kind;
+    float x, y; // of own() only
+
+    static White d65() noexcept { return {MERQYDUK_WHITE_D65, 0, 0}; }
+    static White e() noexcept { return {MERQYDUK_WHITE_E, 0, 0}; }
+    static White dci() noexcept { return {MERQYDUK_WHITE_DCI, 0, 0}; }
+    static White own(float x, float y) noexcept { return {MERQYDUK_WHITE_OWN, x, y}; }
+};
+
+struct Primaries {
+    std::uint32_t kind;
+    float rx, ry, gx, gy, bx, by; // of own() only
+
+    static Primaries srgb() noexcept { return {MERQYDUK_PRIMARIES_SRGB, 0, 0, 0, 0, 0, 0}; }
+    static Primaries bt2100() noexcept { return {MERQYDUK_PRIMARIES_BT2100, 0, 0, 0, 0, 0, 0}; }
+    static Primaries p3() noexcept { return {MERQYDUK_PRIMARIES_P3, 0, 0, 0, 0, 0, 0}; }
+    static Primaries own(float rx, float ry, float gx, float gy, float bx, float by) noexcept {
+        return {MERQYDUK_PRIMARIES_OWN, rx, ry, gx, gy, bx, by};
+    }
+};
+
+struct Curve {
+    std::uint32_t kind;
+    float gamma; // of the two gammas only
+
+    static Curve bt709() noexcept { return {MERQYDUK_CURVE_BT709, 0}; }
+    static Curve linear() noexcept { return {MERQYDUK_CURVE_LINEAR, 0}; }
+    static Curve srgb() noexcept { return {MERQYDUK_CURVE_SRGB, 0}; }
+    static Curve dci() noexcept { return {MERQYDUK_CURVE_DCI, 0}; }
+    // Known, but refused by every call that writes.
+    static Curve pq() noexcept { return {MERQYDUK_CURVE_PQ, 0}; }
+    static Curve hlg() noexcept { return {MERQYDUK_CURVE_HLG, 0}; }
+    // The exponent that encodes, as jxl-rs has it, such as 0.45455; or the one that decodes, such as 2.2.
+    static Curve encoding_gamma(float g) noexcept { return {MERQYDUK_CURVE_GAMMA, g}; }
+    static Curve display_gamma(float g) noexcept { return {MERQYDUK_CURVE_GAMMA, 1 / g}; }
+};
+
+enum class Intent : std::uint32_t {
+    perceptual = MERQYDUK_INTENT_PERCEPTUAL,
+    relative = MERQYDUK_INTENT_RELATIVE,
+    saturation = MERQYDUK_INTENT_SATURATION,
+    absolute = MERQYDUK_INTENT_ABSOLUTE
+};
+
+struct Encoding {
+    enum class Kind { gray, rgb, xyb };
+
+    Kind kind;
+    White white;         // of gray and RGB
+    Primaries primaries; // of RGB
+    Curve curve;         // of gray and RGB
+    Intent intent;
+
+    static Encoding gray(White white, Curve curve, Intent intent) noexcept {
+        return {Kind::gray, white, Primaries::srgb(), curve, intent};
+    }
+    static Encoding rgb(White white, Primaries primaries, Curve curve, Intent intent) noexcept {
+        return {Kind::rgb, white, primaries, curve, intent};
+    }
+    // Written for the intent Perceptual only.
+    static Encoding xyb(Intent intent = Intent::perceptual) noexcept {
+        return {Kind::xyb, White::d65(), Primaries::srgb(), Curve::srgb(), intent};
+    }
+    static Encoding srgb(Intent intent = Intent::perceptual) noexcept {
+        return rgb(White::d65(), Primaries::srgb(), Curve::srgb(), intent);
+    }
+    static Encoding display_p3(Intent intent = Intent::perceptual) noexcept {
+        return rgb(White::d65(), Primaries::p3(), Curve::srgb(), intent);
+    }
+};
+
+// ---- what a call answers
+
+// The length of a profile, or a refusal.
+class Answer {
+  public:
+    explicit Answer(std::uint32_t number) noexcept : number_(number) {}
+
+    // Whether a profile was written.
+    explicit operator bool() const noexcept { return number_ >= MERQYDUK_MIN_PROFILE; }
+    // 0 where nothing was written.
+    std::size_t length() const noexcept { return *this ? number_ : 0; }
+    // One of MERQYDUK_REFUSED_..., or 0 where the job has no such entry; 0 too where a profile was written.
+    std::uint32_t refusal() const noexcept { return *this ? 0 : number_; }
+    // What the refusal means.
+    const char *text() const noexcept { return merqyduk_refusal_text(number_); }
+
+  private:
+    std::uint32_t number_;
+};
+
+using Id = std::array<std::uint8_t, MERQYDUK_ID_SIZE>;
+
+// The id of a profile, which has at least 100 bytes.
+inline Id id(const std::uint8_t *profile) noexcept {
+    Id bytes;
+    std::copy_n(profile + MERQYDUK_ID_OFFSET, bytes.size(), bytes.begin());
+    return bytes;
+}
+
+// A profile by value, or the refusal that stands in its place; then it has no bytes, and its id is all zero.
+class Profile {
+  public:
+    // Has the function write: write(out, out_len).
+    template <typename Write>
+    static Profile from(Write write) noexcept {
+        Profile made;
+        made.answer_ = write(made.bytes_.data(), made.bytes_.size());
+        return made;
+    }
+
+    explicit operator bool() const noexcept { return bool(answer_); }
+    Answer answer() const noexcept { return answer_; }
+    const std::uint8_t *data() const noexcept { return bytes_.data(); }
+    std::size_t size() const noexcept { return answer_.length(); }
+    const std::uint8_t *begin() const noexcept { return data(); }
+    const std::uint8_t *end() const noexcept { return data() + size(); }
+    Id id() const noexcept { return merqyduk::id(data()); }
+
+  private:
+    Profile() noexcept : answer_(0), bytes_() {}
+
+    Answer answer_;
+    std::array<std::uint8_t, MERQYDUK_MAX_PROFILE> bytes_;
+};
+
+// ---- writing
+
+// Into an output that the caller lends.
+inline Answer write(const Encoding &e, std::uint8_t *out, std::size_t out_len) noexcept {
+    const std::uint32_t intent = static_cast<std::uint32_t>(e.intent);
+    switch (e.kind) {
+    case Encoding::Kind::gray:
+        return Answer(merqyduk_write_gray(e.white.kind, e.white.x, e.white.y, e.curve.kind, e.curve.gamma, intent, out,
+                                          out_len));
+    case Encoding::Kind::rgb: {
+        const Primaries &p = e.primaries;
+        return Answer(merqyduk_write_rgb(e.white.kind, e.white.x, e.white.y, p.kind, p.rx, p.ry, p.gx, p.gy, p.bx,
+                                         p.by, e.curve.kind, e.curve.gamma, intent, out, out_len));
+    }
+    case Encoding::Kind::xyb:
+        return Answer(merqyduk_write_xyb(intent, out, out_len));
+    }
+    return Answer(MERQYDUK_REFUSED_MEANING);
+}
+
+template <std::size_t N>
+Answer write(const Encoding &encoding, std::array<std::uint8_t, N> &out) noexcept {
+    return write(encoding, out.data(), N);
+}
+
+// By value.
+inline Profile write(const Encoding &encoding) noexcept {
+    return Profile::from([&](std::uint8_t *out, std::size_t out_len) { return write(encoding, out, out_len); });
+}
+
+// The vector becomes the profile; it is unchanged where the encoding is refused.
+inline Answer write(const Encoding &encoding, std::vector<std::uint8_t> &out) {
+    const Profile profile = write(encoding);
+    if (profile) out.assign(profile.begin(), profile.end());
+    return profile.answer();
+}
+
+// ---- jobs
+
+// A job in bytes that the caller keeps (docs/JOB.md). Its entries are numbered from 0 on over all sections.
+class Job {
+  public:
+    Job(const std::uint8_t *bytes, std::size_t length) noexcept : bytes_(bytes), length_(length), entries_(0) {
+        refusal_ = merqyduk_job(bytes, length, &entries_);
+    }
+
+    // Whether the job is accepted. If not, refusal() is 41, 42 or 43, it has no entries, and every entry is refused with it.
+    explicit operator bool() const noexcept { return refusal_ == 0; }
+    std::uint32_t refusal() const noexcept { return refusal_; }
+    const char *text() const noexcept { return merqyduk_refusal_text(refusal_); }
+    std::uint32_t entries() const noexcept { return entries_; }
+
+    // The profile of entry i, into an output that the caller lends, and by value.
+    Answer write(std::size_t i, std::uint8_t *out, std::size_t out_len) const noexcept {
+        return Answer(merqyduk_job_profile(bytes_, length_, i, out, out_len));
+    }
+    Profile profile(std::size_t i) const noexcept {
+        return Profile::from([&](std::uint8_t *out, std::size_t out_len) { return write(i, out, out_len); });
+    }
+
+  private:
+    const std::uint8_t *bytes_;
+    std::size_t length_;
+    std::uint32_t entries_;
+    std::uint32_t refusal_;
+};
+
+} // namespace merqyduk
+
+#endif
