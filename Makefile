@@ -29,7 +29,9 @@ $(library): $(sources)
 	@command -v $(RT) >/dev/null || { echo 'make: $(RT) is not installed; it proves and compiles the library' >&2; exit 1; }
 	@mkdir -p build
 	@echo 'proving and compiling the library; build/staticlib.log takes what the prover says of it'
-	@$(RT) staticlib host >build/staticlib.log || { tail -n 20 build/staticlib.log >&2; echo 'make: the library was not built' >&2; exit 1; }
+	@rm -f target/staticlib/libhost.a
+	@$(RT) staticlib host 2>&1 >build/staticlib.log | grep -v 'unchanged since' >&2 || :
+	@[ -f target/staticlib/libhost.a ] || { grep -v '^library ' build/staticlib.log | cut -c 1-300 | tail -n 20 >&2; echo 'make: the library was not built' >&2; exit 1; }
 	cp target/staticlib/libhost.a $@
 
 install: $(library)

@@ -4,7 +4,17 @@
 #   differential/bench.sh [OUT]
 set -eu
 
+fail() {
+    echo "bench.sh: $*" >&2
+    exit 1
+}
+if [ $# -gt 1 ]; then
+    echo "bench.sh [OUT]" >&2
+    exit 2
+fi
 here=$(cd "$(dirname "$0")" && pwd)
 out=${1:-$here/../target/differential}
+[ -f "$out/port/target/staticlib/libleaves.a" ] || fail "no port/target/staticlib/libleaves.a in $out: run compare.sh before"
+printf '#include <openssl/md5.h>\n' | c++ -fsyntax-only -x c++ - 2>/dev/null || fail "no openssl/md5.h, install libssl-dev"
 c++ -std=c++17 -O2 -Wno-deprecated-declarations "$here/bench/leaves.cpp" "$out/port/target/staticlib/libleaves.a" -lcrypto -o "$out/leaves"
 "$out/leaves"

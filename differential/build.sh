@@ -9,12 +9,22 @@
 # OUT/target/release/judge.
 set -eu
 
+fail() {
+    echo "build.sh: $*" >&2
+    exit 1
+}
+if [ $# -gt 2 ]; then
+    echo "build.sh [SRC] [OUT]" >&2
+    exit 2
+fi
 here=$(cd "$(dirname "$0")" && pwd)
 src=${1:-$here/../../shared/docs/src}
 out=${2:-$here/../target/differential}
+command -v cargo >/dev/null || fail "cargo is not installed"
 
 # The sources must be the very files that the port was made from.
-(cd "$src" && sha256sum --check --strict --quiet "$here/SHA256SUMS")
+[ -f "$src/jxl/src/api/color.rs" ] || fail "SRC has no jxl/src/api/color.rs: $src"
+(cd "$src" && sha256sum --check --strict --quiet "$here/SHA256SUMS") || fail "the sources are not those of SHA256SUMS"
 
 # Our part is copied anew each time, so that nothing old stays in OUT.
 crates='jxl jxl_simd jxl_macros num_derive byteorder judge'

@@ -37,6 +37,13 @@ bench) [ $# -eq 1 ] || usage "bench takes no other word" ;;
 *) usage "no word '${1-}'" ;;
 esac
 
+for tool in rt cargo; do
+    command -v "$tool" >/dev/null || {
+        echo "compare.sh: $tool is not installed" >&2
+        exit 1
+    }
+done
+
 here=$(cd "$(dirname "$0")" && pwd)
 src=${SRC:-$here/../../shared/docs/src}
 out=${OUT:-$here/../target/differential}
@@ -57,6 +64,7 @@ echo "leaves: buffer words numbers md5 linalg matrix_inverse decimal text color_
 # A crate that the repository's target/ has proved later than this folder's is taken over; rt proves
 # again what has changed since.
 mkdir -p "$out/port/target/stamp" "$out/port/target/rlib" "$out/port/target/log"
+taken=0
 for rlib in "$here"/../target/rlib/*.rlib; do
     name=$(basename "$rlib" .rlib)
     stamp=$here/../target/stamp/$name
@@ -67,7 +75,9 @@ for rlib in "$here"/../target/rlib/*.rlib; do
     for file in "rlib/$name.rlib" "log/$name.out" "log/$name.res" "log/$name.say" "stamp/$name"; do
         [ ! -e "$here/../target/$file" ] || cp -Rp "$here/../target/$file" "$out/port/target/$file"
     done
+    taken=$((taken + 1))
 done
+echo "compare.sh: $taken crates taken over from target/, where they were proved" >&2
 
 # The libraries are built again where a file of theirs has changed.
 files=$(cd "$out/port" && find crates crates.txt -type f | LC_ALL=C sort | xargs sha256sum)
@@ -78,8 +88,11 @@ else
     rm -f "$out/port.sum"
     for library in leaves host; do
         echo "compare.sh: building lib$library.a; $out/port.log has what rt says" >&2
-        (cd "$out/port" && rt staticlib "$library") >"$out/port.log" 2>&1 || {
-            tail -n 20 "$out/port.log" >&2
+        # rt says on standard error which crate is proved; those that were proved before are left out.
+        rm -f "$out/port.built"
+        { cd "$out/port" && rt staticlib "$library" 2>&1 >"$out/port.log" && : >"$out/port.built"; } | grep -v 'unchanged since' >&2 || :
+        [ -f "$out/port.built" ] || {
+            grep -v '^library ' "$out/port.log" | cut -c 1-300 | tail -n 20 >&2
             echo "compare.sh: lib$library.a was not built" >&2
             exit 1
         }

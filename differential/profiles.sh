@@ -7,10 +7,19 @@
 # network; without these any folder of .icc or .icm files serves as well.
 set -eu
 
-[ $# -le 1 ] || {
+case $#${1-} in
+0 | 1[!-]*) ;;
+*)
     echo "profiles.sh [FOLDER]" >&2
     exit 2
-}
+    ;;
+esac
+for tool in apt-get dpkg-deb; do
+    command -v "$tool" >/dev/null || {
+        echo "profiles.sh: $tool is not installed" >&2
+        exit 1
+    }
+done
 here=$(cd "$(dirname "$0")" && pwd)
 folder=${1:-$here/../target/profiles}
 mkdir -p "$folder"

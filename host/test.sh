@@ -22,6 +22,7 @@ if [ $# -gt 1 ] || [ "${1-x}" = '' ]; then
 fi
 case ${1-} in
 -*) echo "host/test.sh: no word $1; host/test.sh [OUT]" >&2 && exit 2 ;;
+*' '*) fail "OUT has a space: pkg-config would take it apart" ;;
 esac
 for tool in make cc c++ nm md5sum; do
     command -v "$tool" >/dev/null || fail "$tool is not installed"

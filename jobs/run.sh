@@ -8,28 +8,48 @@
 # The programs are built by rt; where they stand elsewhere, BIN in the environment is their folder, and nothing is built.
 set -eu
 
+usage() {
+    printf 'jobs/run.sh: %s\n  jobs/run.sh [TEXT] [OUT]\n' "$*" >&2
+    exit 2
+}
+fail() {
+    printf 'jobs/run.sh: %s\n' "$*" >&2
+    exit 1
+}
+
+# A bad word is refused before anything is removed or built.
+[ $# -le 2 ] || usage "no more than two words"
+for word in "$@"; do
+    case $word in
+    -* | '') usage "no word '$word'" ;;
+    esac
+done
 here=$(cd "$(dirname "$0")" && pwd)
 top=$(cd "$here/.." && pwd)
 text=${1:-$here/example.txt}
 out=${2:-$top/target/jobs}
-
-fail() {
-    printf '%s\n' "$*" >&2
-    exit 1
-}
-
+[ -f "$text" ] || usage "no file $text"
 command -v python3 >/dev/null || fail "python3 is not installed: it turns the text into a job"
-mkdir -p "$out"
+if [ -n "${BIN:-}" ]; then
+    for program in listing profiles; do
+        [ -x "$BIN/$program" ] || fail "BIN has no program $program: $BIN"
+    done
+fi
+
+mkdir -p "$out" || fail "there is no folder for what is written: $out"
+python3 "$here/make_job.py" "$text" >"$out/job" || fail "$text is not the text of a job"
 rm -f "$out"/[123]-*.icc
-python3 "$here/make_job.py" "$text" >"$out/job"
 
 if [ -z "${BIN:-}" ]; then
     BIN=$top/target/bin
     command -v rt >/dev/null || fail "rt is not installed: it builds listing and profiles (BIN names the folder of built ones)"
-    echo "Building listing and profiles (what they stand on is proved first: minutes, where nothing is proved yet) ..."
-    (cd "$top" && rt check listing profiles) >"$out/build.log" 2>&1 || {
-        cat "$out/build.log" >&2
-        fail "listing and profiles were not built"
+    echo "Building listing and profiles (what they stand on is proved first: minutes, where nothing is proved yet) ..." >&2
+    # rt says on standard error which crate is proved; those that were proved before are left out.
+    rm -f "$out/built"
+    { cd "$top" && rt check listing profiles 2>&1 >"$out/build.log" && : >"$out/built"; } | grep -v 'unchanged since' >&2 || :
+    [ -f "$out/built" ] || {
+        grep -v '^library ' "$out/build.log" | cut -c 1-300 | tail -n 20 >&2
+        fail "listing and profiles were not built; $out/build.log has what rt says"
     }
 fi
 

@@ -70,7 +70,7 @@ def split(stream, rows):
 
 def show_exiftool(files):
     if not shutil.which("exiftool"):
-        print("exiftool is not installed, so no other program has opened the files.")
+        print("skipped: exiftool's view of the files, install libimage-exiftool-perl")
         return
     ran = subprocess.run(
         ["exiftool", "-q", "-j", "-ProfileDescription", "-Validate", *files], stdout=subprocess.PIPE, check=False

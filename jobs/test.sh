@@ -9,6 +9,19 @@ set -u
 LC_ALL=C
 export LC_ALL
 
+if [ $# -gt 1 ] || [ "${1-x}" = '' ]; then
+    echo "jobs/test.sh [OUT]" >&2
+    exit 2
+fi
+case ${1-} in
+-*) echo "jobs/test.sh: no word $1; jobs/test.sh [OUT]" >&2 && exit 2 ;;
+esac
+for tool in python3 timeout md5sum mkfifo; do
+    command -v "$tool" >/dev/null || {
+        echo "jobs/test.sh: $tool is not installed" >&2
+        exit 1
+    }
+done
 here=$(cd "$(dirname "$0")" && pwd)
 top=$(cd "$here/.." && pwd)
 out=${1:-$top/target/jobs-test}
@@ -90,6 +103,20 @@ python3 "$here/make_job.py" "$out/wrong.txt" >"$out/got" 2>"$out/said"
 held "make_job.py on 256 entries"
 
 # ---- run.sh, which builds the programs
+
+# Words that are wrong: said, and nothing is built or written.
+bad_words() { # BIN WORDS
+    bin=$1
+    shift
+    BIN=$bin "$here/run.sh" "$@" >"$out/got" 2>"$out/said"
+    [ $? -ne 0 ] && [ ! -s "$out/got" ] && grep -q '^jobs/run.sh: ' "$out/said" && [ ! -e "$out/none" ]
+    held "run.sh on the words: $*"
+}
+bad_words '' -h "$out/none"
+bad_words '' "$out/no-such-text" "$out/none"
+bad_words '' "$out" "$out/none"
+bad_words '' "$out/two.txt" "$out/none" more
+bad_words "$out/no-such-folder" "$out/two.txt" "$out/none"
 
 "$here/run.sh" "$out/two.txt" "$out/two" >"$out/two.out" || {
     echo "run.sh failed (see above and $out/two.out), so the programs were not tried"
