@@ -77,7 +77,7 @@ for rlib in "$here"/../target/rlib/*.rlib; do
     done
     taken=$((taken + 1))
 done
-echo "compare.sh: $taken crates taken over from target/, where they were proved" >&2
+echo "compare.sh: crates that target/ has proved since the last run, taken over: $taken" >&2
 
 # The libraries are built again where a file of theirs has changed.
 files=$(cd "$out/port" && find crates crates.txt -type f | LC_ALL=C sort | xargs sha256sum)

@@ -146,6 +146,8 @@ if command -v transicc >/dev/null; then
     for profile in srgb srgb-relative own gray xyb; do
         case $profile in
         gray) white=255 ;;
+        # XYB's color of white, (0, Y, Y), scaled as the profile wants it.
+        xyb) white='90.2231 255 106.3738' ;;
         *) white='255 255 255' ;;
         esac
         said=$(echo "$white" | transicc -i "$out/$profile.icc" -o '*XYZ' 2>&1 | grep X=) || fail "transicc does not read $profile.icc"

@@ -118,6 +118,10 @@ void texts() {
         if (known && seen.insert(text).second) named++;
     }
     expect(named == 21, "texts that differ");
+    expect(std::to_string(MERQYDUK_VERSION_MAJOR) + "." + std::to_string(MERQYDUK_VERSION_MINOR) + "." +
+                   std::to_string(MERQYDUK_VERSION_PATCH) ==
+               MERQYDUK_VERSION_STRING,
+           "the version");
 }
 
 } // namespace

@@ -51,7 +51,7 @@
 #define MERQYDUK_ID_SIZE 16
 
 /* Bytes of stack that are enough for every call. */
-#define MERQYDUK_STACK 4096
+#define MERQYDUK_STACK 8192
 
 #ifdef __cplusplus
 extern "C" {

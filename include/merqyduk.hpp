@@ -1,5 +1,5 @@
-// Merqyduk for C++11 and later: the calls of merqyduk.h with an encoding as one value. Header only; it throws nothing of its own (a
-// std::vector may run out of memory). merqyduk.h says what the answers, the id and a gamma mean.
+// Merqyduk for C++11 and later: the calls of merqyduk.h with an encoding as one value. Header only; it throws nothing of
+// its own (a std::vector may run out of memory). merqyduk.h says what the answers, the id and a gamma mean.
 //
 //    auto profile = merqyduk::write(merqyduk::Encoding::srgb());
 //    if (profile) save(profile.data(), profile.size());
@@ -192,7 +192,7 @@ class Job {
         refusal_ = merqyduk_job(bytes, length, &entries_);
     }
 
-    // Whether the job is accepted. If not, refusal() is 41, 42 or 43, it has no entries, and every entry is refused with it.
+    // Whether the job is accepted. If not, refusal() is 41, 42 or 43, and every entry is refused with it.
     explicit operator bool() const noexcept { return refusal_ == 0; }
     std::uint32_t refusal() const noexcept { return refusal_; }
     const char *text() const noexcept { return merqyduk_refusal_text(refusal_); }
