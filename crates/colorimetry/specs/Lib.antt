@@ -1,4 +1,3 @@
-pub mod Adapt
 pub mod Primaries
-pub mod AdaptLaws
+pub mod PrimariesLaws
 pub mod RefusalLaws

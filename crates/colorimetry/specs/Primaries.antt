@@ -11,7 +11,8 @@ use Rattle.color_encoding.specs.declared.WhiteXy.{WhiteXy}
 use Rattle.color_encoding.specs.declared.PrimariesXy.{PrimariesXy}
 use Rattle.color_encoding.specs.Range.{inRange}
 use Rattle.white_point.specs.White.{whiteXyz, finiteXyz}
-use Rattle.colorimetry.specs.Adapt.{diagonal, invalidWhitePoint, adaptToXyzD50, narrowed}
+use Rattle.icc_matrix.specs.Narrowed.{narrowed}
+use Rattle.adaptation.specs.Adapt.{diagonal, invalidWhitePoint, adaptToXyzD50}
 use Rattle.colorimetry.specs.declared.Conversion.{Conversion}
 use Rattle.colorimetry.specs.declared.Conversion.the-variants.{Converted, InvalidWhitePoint, MatrixInversionFailed}
 

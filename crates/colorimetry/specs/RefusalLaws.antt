@@ -9,7 +9,7 @@ use Rattle.buffer.specs.CheckedLaws.{Refusing, by-then, by-cond}
 use Rattle.color_encoding.specs.Range.{inRange}
 use Rattle.white_point.specs.White.{whiteXyz, finiteXyz}
 use Rattle.white_point.specs.GrayWhite.{epsilon, cieXyzFromWhiteCieXy}
-use Rattle.colorimetry.specs.Adapt.{adaptable, adaptToXyzD50, chadMatrix}
+use Rattle.adaptation.specs.Adapt.{adaptable, adaptToXyzD50, chadMatrix}
 use Rattle.colorimetry.specs.Primaries.{primariesMatrix, primariesToXyz, primariesToXyzD50, createIccRgbMatrix}
 
 module _ (P : ℕ → Type 0) where

@@ -32,7 +32,7 @@ use Rattle.color_encoding.specs.declared.JxlColorEncoding.{JxlColorEncoding}
 use Rattle.color_encoding.specs.declared.JxlColorEncoding.the-variants.{RgbColorSpace, GrayscaleColorSpace, XYB}
 use Rattle.white_point.specs.GrayWhite.{cieXyzFromWhiteCieXy}
 use Rattle.white_point.specs.GrayWhiteLaws.{gray-white}
-use Rattle.colorimetry.specs.Adapt.{chadMatrix}
+use Rattle.adaptation.specs.Adapt.{chadMatrix}
 use Rattle.colorimetry.specs.Primaries.{createIccRgbMatrix}
 use Rattle.colorimetry.specs.RefusalLaws.{by-white, by-chad, by-rgb-matrix}
 use Rattle.profile.specs.Plan.{Plan}

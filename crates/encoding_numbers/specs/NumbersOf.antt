@@ -8,7 +8,7 @@ use Rattle.linalg.specs.Linalg.{component, rows, columns}
 use Rattle.color_encoding.specs.declared.WhiteXy.{WhiteXy}
 use Rattle.color_encoding.specs.declared.PrimariesXy.{PrimariesXy}
 use Rattle.white_point.specs.GrayWhite.{cieXyzFromWhiteCieXy}
-use Rattle.colorimetry.specs.Adapt.{chadMatrix}
+use Rattle.adaptation.specs.Adapt.{chadMatrix}
 use Rattle.colorimetry.specs.Primaries.{createIccRgbMatrix}
 use Rattle.buffer.specs.Checked.{Checked, is, refused, then, each}
 use Rattle.encoding_numbers.specs.declared.GrayNumbers.{GrayNumbers}

@@ -83,7 +83,7 @@ pub fn chad_numbers(white: WhiteXy) -> NineNumbers
 {
     let mut chad = [[0.0f32; 3]; 3];
     match colorimetry::chad_matrix(white, &mut chad) {
-        Adaptation::Adapted => fixed_numbers(colorimetry::rows(chad), 5),
+        Adaptation::Adapted => fixed_numbers(icc_matrix::rows(chad), 5),
         Adaptation::InvalidWhitePoint => NineNumbers {
             refusal: 4,
             values: [0; 9],
@@ -97,7 +97,7 @@ pub fn column_numbers(primaries: PrimariesXy, white: WhiteXy) -> NineNumbers
 {
     let mut m = [[0.0f32; 3]; 3];
     match colorimetry::create_icc_rgb_matrix(primaries, white, &mut m) {
-        Conversion::Converted => fixed_numbers(colorimetry::columns(m), 7),
+        Conversion::Converted => fixed_numbers(icc_matrix::columns(m), 7),
         Conversion::InvalidWhitePoint => NineNumbers {
             refusal: 4,
             values: [0; 9],

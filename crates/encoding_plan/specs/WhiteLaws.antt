@@ -8,8 +8,8 @@ use Rattle.color_encoding.specs.Coordinates.{whiteXy}
 use Rattle.color_encoding.specs.declared.JxlWhitePoint.{JxlWhitePoint}
 use Rattle.color_encoding.specs.declared.JxlColorEncoding.{JxlColorEncoding}
 use Rattle.color_encoding.specs.declared.JxlColorEncoding.the-variants.{RgbColorSpace, GrayscaleColorSpace, XYB}
-use Rattle.colorimetry.specs.Adapt.{chadMatrix}
-use Rattle.colorimetry.specs.AdaptLaws.{adapted-in-range}
+use Rattle.adaptation.specs.Adapt.{chadMatrix}
+use Rattle.adaptation.specs.AdaptLaws.{adapted-in-range}
 use Rattle.text.specs.Held.{InRange, WhiteInRange}
 use Rattle.profile.specs.Plan.{Plan}
 use Rattle.encoding_plan.specs.PlanOf.{supported, chadNumbers, planOf}

@@ -26,7 +26,8 @@ use Rattle.floats.specs.Narrow.{narrow}
 use Rattle.color_encoding.specs.Range.{inRange}
 use Rattle.white_point.specs.White.{whiteXyz, finite, finiteXyz}
 use Rattle.white_point.specs.GrayWhite.{cieXyzFromWhiteCieXy}
-use Rattle.colorimetry.specs.Adapt.{hasZero, allFinite, lms, gains, adaptable, adaptationMatrix, adaptToXyzD50, narrowed, chadMatrix}
+use Rattle.icc_matrix.specs.Narrowed.{narrowed}
+use Rattle.adaptation.specs.Adapt.{hasZero, allFinite, lms, gains, adaptable, adaptationMatrix, adaptToXyzD50, chadMatrix}
 use Rattle.colorimetry.specs.Primaries.{primariesMatrix, scaledPrimaries, primariesToXyz, primariesToXyzD50, createIccRgbMatrix}
 use Rattle.text.specs.Description.{whiteName, primariesName, transferName, rgbText, grayText, rgbDescription, description}
 use Rattle.profile.specs.Elements.{fileLength, start, bodySize, tagCount, padding}

@@ -12,7 +12,7 @@ use Rattle.color_encoding.specs.declared.PrimariesXy.{PrimariesXy}
 use Rattle.color_encoding.specs.declared.JxlColorEncoding.{JxlColorEncoding}
 use Rattle.color_encoding.specs.declared.JxlColorEncoding.the-variants.{RgbColorSpace, GrayscaleColorSpace, XYB}
 use Rattle.white_point.specs.GrayWhite.{cieXyzFromWhiteCieXy}
-use Rattle.colorimetry.specs.Adapt.{chadMatrix}
+use Rattle.adaptation.specs.Adapt.{chadMatrix}
 use Rattle.colorimetry.specs.Primaries.{createIccRgbMatrix}
 use Rattle.buffer.specs.Checked.{Checked, is, refused, then}
 use Rattle.validate.specs.declared.Validation.{Validation}

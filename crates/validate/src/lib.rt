@@ -59,7 +59,7 @@ fn validate_matrix(primaries: PrimariesXy, white: WhiteXy) -> Validation
     let mut m = [[0.0f32; 3]; 3];
     match colorimetry::create_icc_rgb_matrix(primaries, white, &mut m) {
         Conversion::Converted => {
-            let values = colorimetry::rows(m);
+            let values = icc_matrix::rows(m);
             if !all_s15_fixed_16(&values) {
                 return Validation::ValueOutOfRange;
             }
@@ -77,7 +77,7 @@ fn validate_rgb(primaries: PrimariesXy, white: WhiteXy) -> Validation
     let mut chad = [[0.0f32; 3]; 3];
     match colorimetry::chad_matrix(white, &mut chad) {
         Adaptation::Adapted => {
-            let values = colorimetry::rows(chad);
+            let values = icc_matrix::rows(chad);
             if !all_s15_fixed_16(&values) {
                 return Validation::ValueOutOfRange;
             }

@@ -26,7 +26,8 @@ use Rattle.color_encoding.specs.declared.JxlColorEncoding.{JxlColorEncoding}
 use Rattle.color_encoding.specs.declared.JxlColorEncoding.the-variants.{RgbColorSpace, GrayscaleColorSpace, XYB}
 use Rattle.white_point.specs.White.{whiteXyz}
 use Rattle.white_point.specs.GrayWhite.{epsilon}
-use Rattle.colorimetry.specs.Adapt.{gains, adaptable, adaptationMatrix, narrowed}
+use Rattle.icc_matrix.specs.Narrowed.{narrowed}
+use Rattle.adaptation.specs.Adapt.{gains, adaptable, adaptationMatrix}
 use Rattle.colorimetry.specs.Primaries.{primariesMatrix, scaledPrimaries}
 use Rattle.profile.specs.Plan.{Plan}
 use Rattle.profile.specs.Layout.{layout}

@@ -28,9 +28,10 @@ use Rattle.color_encoding.specs.declared.JxlColorEncoding.{JxlColorEncoding}
 use Rattle.color_encoding.specs.declared.JxlColorEncoding.the-variants.{RgbColorSpace, GrayscaleColorSpace, XYB}
 use Rattle.white_point.specs.GrayWhite.{epsilon, cieXyzFromWhiteCieXy}
 use Rattle.white_point.specs.GrayWhiteLaws.{white-given, white-refused}
-use Rattle.colorimetry.specs.Adapt.{adaptable, chadMatrix}
-use Rattle.colorimetry.specs.AdaptLaws.{chad-given, chad-refused, matrix-given, matrix-refused}
+use Rattle.adaptation.specs.Adapt.{adaptable, chadMatrix}
+use Rattle.adaptation.specs.AdaptLaws.{chad-given, chad-refused}
 use Rattle.colorimetry.specs.Primaries.{primariesMatrix, createIccRgbMatrix}
+use Rattle.colorimetry.specs.PrimariesLaws.{matrix-given, matrix-refused}
 use Rattle.profile.specs.Plan.{Plan, xyb}
 use Rattle.profile.specs.declared.Curve.the-variants.{Named, Gamma}
 use Rattle.profile.specs.declared.CurveName.{CurveName}

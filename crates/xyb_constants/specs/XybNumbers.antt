@@ -10,7 +10,7 @@ use Rattle.floats.specs.Narrow.{narrow}
 use Rattle.color_encoding.specs.Coordinates.{whiteXy}
 use Rattle.color_encoding.specs.declared.JxlWhitePoint.the-variants.{D65}
 use Rattle.buffer.specs.Checked.{Checked, is, refused}
-use Rattle.colorimetry.specs.Adapt.{chadMatrix}
+use Rattle.adaptation.specs.Adapt.{chadMatrix}
 use Rattle.floats.specs.Binary32.{_⊖_, _⊗_, _⊘_, zero, one}
 use Rattle.floats.specs.Binary64.{zero as zero64}
 use Rattle.floats.specs.Rounding.{halvesUp}

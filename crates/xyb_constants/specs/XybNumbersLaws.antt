@@ -12,7 +12,8 @@ use Rattle.numbers.specs.declared.fixed.S15Fixed16.the-variants.{Number}
 use Rattle.linalg.specs.Linalg.{applied, product, dot}
 use Rattle.color_encoding.specs.Range.{inRange}
 use Rattle.white_point.specs.White.{finite, finiteXyz, whiteXyz}
-use Rattle.colorimetry.specs.Adapt.{chadMatrix, adaptToXyzD50, adaptationMatrix, adaptable, hasZero, allFinite, lms, gains, narrowed}
+use Rattle.icc_matrix.specs.Narrowed.{narrowed}
+use Rattle.adaptation.specs.Adapt.{chadMatrix, adaptToXyzD50, adaptationMatrix, adaptable, hasZero, allFinite, lms, gains}
 use Rattle.xyb_constants.specs.XybConstants.{unscaledA2bCubeFull}
 use Rattle.xyb_constants.specs.XybNumbers.{clut, mCurveFloats, mCurves, matrixFloats, matrix, chadFloats, chad, identityGamma}
 

@@ -1,7 +1,7 @@
 -- `adapted` meets its contract: what `adapt_to_xyz_d50` answers tells its case.
 use mathlib.Core.Path.{_≡_, sym, ap}
 use Rattle.buffer.specs.Checked.{is}
-use Rattle.colorimetry.specs.Adapt.{invalidWhitePoint, adaptToXyzD50, checkedAdaptation}
+use Rattle.adaptation.specs.Adapt.{invalidWhitePoint, adaptToXyzD50, checkedAdaptation}
 use Rattle.buffer.specs.OutputsLaws.{outputs-value, outputs-refusal, expected-if}
 use borrow.Author.Needs.{needs}
 use Rattle.colorimetry.proofs.adapted.Statement.{statement}

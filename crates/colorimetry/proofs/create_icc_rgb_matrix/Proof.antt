@@ -1,7 +1,7 @@
 -- `create_icc_rgb_matrix` meets its contract: what `primaries_to_xyz_d50` answers tells its case.
 use mathlib.Core.Path.{_≡_, sym, ap}
 use Rattle.buffer.specs.Checked.{is}
-use Rattle.colorimetry.specs.Adapt.{invalidWhitePoint}
+use Rattle.adaptation.specs.Adapt.{invalidWhitePoint}
 use Rattle.colorimetry.specs.Primaries.{matrixInversionFailed, primariesToXyzD50, createIccRgbMatrix, checkedConversion}
 use Rattle.buffer.specs.OutputsLaws.{outputs-value, outputs-refusal, expected-if}
 use borrow.Author.Needs.{needs}

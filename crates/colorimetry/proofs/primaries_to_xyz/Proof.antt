@@ -8,7 +8,7 @@ use Rattle.buffer.specs.Checked.{is}
 use Rattle.matrix_inverse.specs.Inverse.{singular}
 use Rattle.color_encoding.specs.Range.{inRange}
 use Rattle.white_point.specs.White.{whiteXyz, finiteXyz}
-use Rattle.colorimetry.specs.Adapt.{invalidWhitePoint}
+use Rattle.adaptation.specs.Adapt.{invalidWhitePoint}
 use Rattle.colorimetry.specs.Primaries.{primariesMatrix, scaledPrimaries, matrixInversionFailed, primariesToXyz}
 use Rattle.buffer.specs.OutputsLaws.{outputs-value, outputs-refusal}
 use borrow.Author.Needs.{needs}

@@ -1,7 +1,7 @@
 -- `primaries_to_xyz_d50` meets its contract: what `primaries_to_xyz` answers tells its case.
 use mathlib.Core.Path.{_≡_}
 use Rattle.buffer.specs.Checked.{is}
-use Rattle.colorimetry.specs.Adapt.{invalidWhitePoint}
+use Rattle.adaptation.specs.Adapt.{invalidWhitePoint}
 use Rattle.colorimetry.specs.Primaries.{matrixInversionFailed, primariesToXyz, primariesToXyzD50, checkedConversion}
 use Rattle.buffer.specs.OutputsLaws.{outputs-refusal, expected-if}
 use borrow.Author.Needs.{needs}

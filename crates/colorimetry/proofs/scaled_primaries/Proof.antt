@@ -3,7 +3,7 @@ use mathlib.Core.Path.{ap, _∙_}
 use mathlib.Core.List.{List}
 use lib.Ieee.{Float}
 use Rattle.linalg.specs.Linalg.{applied, product}
-use Rattle.colorimetry.specs.Adapt.{diagonal}
+use Rattle.adaptation.specs.Adapt.{diagonal}
 use Rattle.colorimetry.specs.Primaries.{scaledPrimaries}
 use borrow.Author.Needs.{needs}
 use Rattle.colorimetry.proofs.scaled_primaries.Statement.{statement}

@@ -1,7 +1,7 @@
 -- `chad_numbers` meets its contract: what `chad_matrix` answers tells its case.
 use mathlib.Core.Path.{_≡_, sym, ap, _∙_}
 use borrow.Author.Needs.{needs}
-use Rattle.colorimetry.specs.Adapt.{invalidWhitePoint, checkedAdaptation, chadMatrix}
+use Rattle.adaptation.specs.Adapt.{invalidWhitePoint, checkedAdaptation, chadMatrix}
 use Rattle.buffer.specs.OutputsLaws.{expected-if}
 use Rattle.buffer.specs.Checked.{is, each}
 use Rattle.numbers.specs.Fixed.{fixedOr}

@@ -1,7 +1,7 @@
 -- `column_numbers` meets its contract: what `create_icc_rgb_matrix` answers tells its case.
 use mathlib.Core.Path.{_≡_, sym, ap, _∙_}
 use borrow.Author.Needs.{needs}
-use Rattle.colorimetry.specs.Adapt.{invalidWhitePoint}
+use Rattle.adaptation.specs.Adapt.{invalidWhitePoint}
 use Rattle.colorimetry.specs.Primaries.{matrixInversionFailed, checkedConversion, createIccRgbMatrix}
 use Rattle.buffer.specs.OutputsLaws.{expected-if}
 use Rattle.buffer.specs.Checked.{is, each}

@@ -4,7 +4,7 @@ use borrow.Author.Tests.{not-true, not-false}
 use borrow.Author.Needs.{needs}
 use Rattle.buffer.specs.Checked.{is}
 use Rattle.linalg.specs.Linalg.{rows}
-use Rattle.colorimetry.specs.Adapt.{invalidWhitePoint, chadMatrix, checkedAdaptation}
+use Rattle.adaptation.specs.Adapt.{invalidWhitePoint, chadMatrix, checkedAdaptation}
 use Rattle.buffer.specs.OutputsLaws.{expected-if}
 use Rattle.validate.specs.Validate.{allS15Fixed16}
 use Rattle.validate.proofs.validate_rgb.Statement.{statement}

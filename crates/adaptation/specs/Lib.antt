@@ -1,0 +1,2 @@
+pub mod Adapt
+pub mod AdaptLaws
