@@ -3,16 +3,22 @@
 -- what `ProfileOf` of job_output says, its answer as one number.) Assumes nothing.
 use Prim.Native.Nat.{ℕ}
 use mathlib.Core.Path.{_≡_}
+use mathlib.Core.Bool.{cond}
 use mathlib.Core.List.{List}
+use lib.Dec.{eqb, leb}
 use lib.ListN.{length}
+use Rattle.buffer.specs.Buffer.{put}
 use Rattle.buffer.specs.Checked.{Checked, then}
 use Rattle.color_encoding.specs.declared.JxlColorEncoding.{JxlColorEncoding}
 use Rattle.encoding_plan.specs.PlanOf.{planOf}
-use Rattle.writer.specs.Writer.{answer, number, profileBy, Writes}
+use Rattle.profile.specs.Elements.{Entry}
+use Rattle.writer.specs.Writer.{tooShort, answer, number, profileBy, Writes}
 use Rattle.job.specs.declared.JobAnswer.{JobAnswer}
 use Rattle.job.specs.declared.JobAnswer.the-variants as A
 use Rattle.job_output.specs.declared.JobProfile.{JobProfile}
 use Rattle.job_output.specs.declared.JobProfile.the-variants as J
+use Rattle.reading.specs.declared.Reading.{Reading}
+use Rattle.plan_record.specs.PlanRecord.{recordSize, planRecord}
 
 -- ---- the profile of an encoding that comes by codes
 
@@ -44,3 +50,21 @@ abbrev pub profileNumber : JobProfile → ℕ
 profileNumber (J.Written n) = n
 profileNumber J.Absent = 0
 profileNumber (J.Refused k) = k
+
+-- ---- a file read into a lent record
+
+-- the reader's refusal where there is one; then 9 where the lent record is shorter than the struct; 0 where the plan was stored
+abbrev pub readNumber : Reading → ℕ → ℕ
+readNumber a lent = cond (eqb (a .refusal) 0) (cond (leb recordSize lent) 0 tooShort) (a .refusal)
+
+-- by the reader's answer a. The struct stands at the front of the lent record, whose rest is as it was; on a refusal all of it is as it was
+pub record ReadsPlan (a : Reading) (before after : List ℕ) (r : ℕ) : Type 0 where
+  pub answer : r ≡ readNumber a (length before)
+  pub plan : after ≡ cond (eqb (readNumber a (length before)) 0) (put before 0 (planRecord a)) before
+
+-- ---- an element of a file
+
+-- by the line e of the tag table: the element's size, and its offset in the lent number, which is as it was where the element has no bytes
+pub record FindsElement (e : Entry) (before after r : ℕ) : Type 0 where
+  pub answer : r ≡ e .size
+  pub offset : after ≡ cond (eqb (e .size) 0) before (e .offset)

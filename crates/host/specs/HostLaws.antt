@@ -1,14 +1,19 @@
--- What the writer promises, as a C call promises it. Assumes nothing.
-use Prim.Native.Nat.{ℕ}
+-- What the writer promises, as a C call promises it; and what the calls on files promise, by each of their answers. Assumes nothing.
+use Prim.Native.Nat.{ℕ, _≤_, _<_}
 use mathlib.Core.Path.{_≡_, sym, ap, _∙_}
 use mathlib.Core.List.{List}
+use borrow.Author.Tests.{le-leb, lt-leb, eq-eqb, ne-eqb}
 use lib.ListN.{length}
+use Rattle.buffer.specs.Buffer.{put}
 use Rattle.buffer.specs.Checked.{is}
 use Rattle.color_encoding.specs.declared.JxlColorEncoding.{JxlColorEncoding}
-use Rattle.writer.specs.Writer.{number, profileBy, Creates}
+use Rattle.profile.specs.Elements.{Entry}
+use Rattle.writer.specs.Writer.{tooShort, number, profileBy, Creates}
 use Rattle.writer.specs.declared.Profile.{Profile}
 use Rattle.writer_laws.specs.RefusalNumbers.{answer-told}
-use Rattle.host.specs.Host.{WritesCode}
+use Rattle.reading.specs.declared.Reading.{Reading}
+use Rattle.plan_record.specs.PlanRecord.{recordSize, planRecord}
+use Rattle.host.specs.Host.{WritesCode, ReadsPlan, FindsElement}
 
 -- the answer q, as the one number that it is
 pub code-written : {e : JxlColorEncoding} {before after : List ℕ} {p q : Profile} → Creates e before after p → p ≡ q → WritesCode (is e) before after (number q)
@@ -18,3 +23,31 @@ code-written {e} {before} w same =
       writes = record { answer = ap number known; output = w .writes .output };
       told = ap (λ (r : Profile). profileBy (number r)) known ∙ answer-told e (w .held) (length before);
     }
+
+-- ---- a file read into a lent record
+
+module _ (a : Reading) (before : List ℕ) where
+  pub read-refused : (a .refusal ≡ 0 → ⊥) → ReadsPlan a before before (a .refusal)
+  read-refused h = let no = ne-eqb (a .refusal) 0 h in record { answer = simp no; plan = simp no }
+
+  module _ (h : a .refusal ≡ 0) where
+    pub read-short : length before < recordSize → ReadsPlan a before before tooShort
+    read-short g =
+        let yes = eq-eqb (a .refusal) 0 h in
+        let no = lt-leb recordSize (length before) g in
+        record { answer = simp (yes, no); plan = simp (yes, no) }
+
+    pub read-stored : {after : List ℕ} → recordSize ≤ length before → after ≡ put before 0 (planRecord a) → ReadsPlan a before after 0
+    read-stored g e =
+        let yes = eq-eqb (a .refusal) 0 h in
+        let long = le-leb recordSize (length before) g in
+        record { answer = simp (yes, long); plan = simp (yes, long) e }
+
+-- ---- an element of a file
+
+module _ {e : Entry} {n : ℕ} (size : n ≡ e .size) where
+  pub element-found : {before offset : ℕ} → (n ≡ 0 → ⊥) → offset ≡ e .offset → FindsElement e before offset n
+  element-found h o = record { answer = size; offset = rw (ne-eqb (e .size) 0 (λ z. h (size ∙ z))) o }
+
+  pub element-absent : {before : ℕ} → n ≡ 0 → FindsElement e before before n
+  element-absent h = record { answer = size; offset = rw (eq-eqb (e .size) 0 (sym size ∙ h)) }

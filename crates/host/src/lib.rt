@@ -1,5 +1,6 @@
-// The writer and the job for C and C++: include/merqyduk.h declares these entries. An encoding comes as numbers, a job as bytes, and the output
-// is lent. A call that writes answers the profile's length (284 or more) or a number below 100, and then the output is unchanged.
+// The writer, the job, the reader and the finder for C and C++: include/merqyduk.h declares these entries. An encoding comes as numbers, a job and a
+// file as bytes, and the output is lent. A call that writes answers the profile's length (284 or more) or a number below 100, and then the output
+// is unchanged; one that reads answers 0 or a number, and then the lent record is unchanged.
 use color_encoding::EncodingCode;
 use color_encoding::JxlColorEncoding;
 use color_encoding::JxlPrimaries;
@@ -14,7 +15,11 @@ ghost use Rattle.color_encoding.specs.Codes.{knownEncoding, grayFrom, rgbFrom, 
 ghost use Rattle.job.specs.Job as Job;
 ghost use Rattle.job.specs.Job.{jobAnswer, entryAnswer};
 ghost use Rattle.job_output.specs.JobOutput.{ProfileOf};
-ghost use Rattle.host.specs.Host.{WritesCode, CountsEntries, profileNumber};
+ghost use Rattle.words.specs.Words.{be32};
+ghost use Rattle.reader_spec.specs.Read as Read;
+ghost use Rattle.reader_spec.specs.Finder as Finder;
+ghost use Rattle.reading.specs.Reading.{reading};
+ghost use Rattle.host.specs.Host.{WritesCode, CountsEntries, profileNumber, ReadsPlan, FindsElement};
 
 // ---- the profile of an encoding
 
@@ -118,4 +123,35 @@ pub extern "C" fn merqyduk_job_profile(job: &[u8], i: usize, out: &mut [u8]) -> 
         JobProfile::Absent => 0,
         JobProfile::Refused(number) => number,
     }
+}
+
+// ---- files
+
+#[no_mangle]
+pub extern "C" fn merqyduk_read(file: &[u8], plan: &mut [u8]) -> u32
+    ensures { λ r. ⌜ ReadsPlan (reading (Read.read (now (file .entry)))) (now (plan .entry)) (now (plan .exit)) r ⌝ }
+{
+    let answer = reader::read(file);
+    if answer.refusal != 0 {
+        return answer.refusal;
+    }
+    if plan.len() < plan_record::RECORD_SIZE {
+        return writer::TOO_SHORT;
+    }
+    plan_record::put_plan_record(plan, 0, answer);
+    0
+}
+
+// The signature is its four bytes as one number, the first byte the most significant.
+#[no_mangle]
+pub extern "C" fn merqyduk_find(file: &[u8], signature: u32, offset: &mut u32) -> u32
+    ensures { λ r. ⌜ FindsElement (Finder.found (now (file .entry)) (be32 signature)) (now (offset .entry)) (now (offset .exit)) r ⌝ }
+{
+    let mut bytes = [0u8; 4];
+    words::put_u32_be(&mut bytes, 0, signature);
+    let line = reader::find_line(file, bytes);
+    if line.size != 0 {
+        *offset = line.offset;
+    }
+    line.size
 }

@@ -23,7 +23,9 @@ use Rattle.profile.specs.declared.Curve.{Curve}
 use Rattle.profile.specs.declared.Curve.the-variants.{Named, Gamma}
 use Rattle.profile.specs.declared.Cicp.{Cicp}
 use Rattle.profile.specs.declared.Cicp.the-variants.{Absent, Primaries}
-use Rattle.reader_spec.specs.RefusalList.{accepted}
+use Rattle.reader_spec.specs.RefusalList.{Answer, refused, accepted}
+use Rattle.reader_spec.specs.Read.{read}
+use Rattle.reader_spec.specs.Accepts.{accepts-exactly}
 use Rattle.reader_spec.specs.FileLaws.{valid-wide}
 use Rattle.reading.specs.Reading.{kindNumber, nameNumber, curveNumber, gammaNumber, cicpNumber, textArray, acceptedWith, reading}
 use Rattle.reading.specs.declared.Reading.{Reading}
@@ -214,9 +216,12 @@ content-held i xyb small h =
       letters = omega arith;
     }
 
+numbers-held : (p : Plan) → Valid p → HeldNumbers (p .intent) (p .content)
+numbers-held p v = content-held (p .intent) (p .content) (v .intent) (valid-wide p v .content)
+
 pub plan-held : (p : Plan) → Valid p → Held (reading (accepted p))
 plan-held p v =
-    let n = content-held (p .intent) (p .content) (v .intent) (valid-wide p v .content) in
+    let n = numbers-held p v in
     record {
       accepted = refl;
       kind = kind-word (numbersOf p .kind);
@@ -231,3 +236,11 @@ plan-held p v =
       letters = omega (arith, n .letters);
       text = text-long (textOf p) (n .letters);
     }
+
+-- whatever file was read
+pub read-letters : (f : List ℕ) → reading (read f) .letters ≤ maxLetters
+read-letters f = go (read f) refl
+  where
+    go : (a : Answer) → read f ≡ a → reading a .letters ≤ maxLetters
+    go (accepted p) e = numbers-held p (accepts-exactly f p .0 e .0) .letters
+    go (refused c) e = omega arith
