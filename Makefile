@@ -30,7 +30,7 @@ $(library): $(sources)
 	@mkdir -p build
 	@echo 'proving and compiling the library; build/staticlib.log takes what the prover says of it'
 	@rm -f target/staticlib/libhost.a
-	@$(RT) staticlib host 2>&1 >build/staticlib.log | grep -v 'unchanged since' >&2 || :
+	@$(RT) staticlib host 2>&1 >build/staticlib.log | grep --line-buffered -v 'unchanged since' >&2 || :
 	@[ -f target/staticlib/libhost.a ] || { grep -v '^library ' build/staticlib.log | cut -c 1-300 | tail -n 20 >&2; echo 'make: the library was not built' >&2; exit 1; }
 	cp target/staticlib/libhost.a $@
 

@@ -90,7 +90,7 @@ else
         echo "compare.sh: building lib$library.a; $out/port.log has what rt says" >&2
         # rt says on standard error which crate is proved; those that were proved before are left out.
         rm -f "$out/port.built"
-        { cd "$out/port" && rt staticlib "$library" 2>&1 >"$out/port.log" && : >"$out/port.built"; } | grep -v 'unchanged since' >&2 || :
+        { cd "$out/port" && rt staticlib "$library" 2>&1 >"$out/port.log" && : >"$out/port.built"; } | grep --line-buffered -v 'unchanged since' >&2 || :
         [ -f "$out/port.built" ] || {
             grep -v '^library ' "$out/port.log" | cut -c 1-300 | tail -n 20 >&2
             echo "compare.sh: lib$library.a was not built" >&2

@@ -46,7 +46,7 @@ if [ -z "${BIN:-}" ]; then
     echo "Building listing and profiles (what they stand on is proved first: minutes, where nothing is proved yet) ..." >&2
     # rt says on standard error which crate is proved; those that were proved before are left out.
     rm -f "$out/built"
-    { cd "$top" && rt check listing profiles 2>&1 >"$out/build.log" && : >"$out/built"; } | grep -v 'unchanged since' >&2 || :
+    { cd "$top" && rt check listing profiles 2>&1 >"$out/build.log" && : >"$out/built"; } | grep --line-buffered -v 'unchanged since' >&2 || :
     [ -f "$out/built" ] || {
         grep -v '^library ' "$out/build.log" | cut -c 1-300 | tail -n 20 >&2
         fail "listing and profiles were not built; $out/build.log has what rt says"
