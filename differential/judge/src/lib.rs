@@ -3,6 +3,7 @@
 
 pub mod answer;
 pub mod bench;
+pub mod conformance;
 pub mod encoding;
 pub mod examples;
 pub mod inputs;

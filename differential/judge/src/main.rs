@@ -5,7 +5,7 @@ use std::process::ExitCode;
 
 use judge::encoding::{Curve, Encoding, Primaries, White};
 use judge::list::{self, Input, hex};
-use judge::{answer, bench, examples, job_list, jobs, leaves, reader};
+use judge::{answer, bench, conformance, examples, job_list, jobs, leaves, reader};
 
 const USAGE: &str = "\
 judge profile ENCODING [ROOM]  the profile, or the refusal; ROOM is the output's length
@@ -20,6 +20,8 @@ judge job < JOB                the listing of a job
 judge job-list [SEED]          writes the list of jobs
 judge read < PROFILE           the plan of a profile, or the refusal
 judge bench                    times the four kinds of profile
+judge conformance [SEED]       writes the conformance list
+judge answer < ENCODINGS       answers to the encodings of that list
 
 ENCODING is one of
   1 WHITE WX WY CURVE GAMMA INTENT
@@ -71,6 +73,8 @@ fn run(command: &str, mut words: Words) -> Result<bool, String> {
                 println!("{name}: {nanoseconds:.0} ns");
             }
         }
+        "conformance" => print!("{}", conformance::list(words.number_or(list::SEED)?)),
+        "answer" => conformance::answer_all()?,
         _ => return Err(format!("no command {command}")),
     }
     Ok(true)

@@ -38,7 +38,8 @@ pub fn any(random: &mut Random) -> Encoding {
     }
 }
 
-fn on_one_line(random: &mut Random) -> Encoding {
+/// Primaries on one line through the white, with any curve and intent.
+pub fn on_one_line(random: &mut Random) -> Encoding {
     let ((wx, wy), xy) = colours::on_one_line(random);
     let (curve, intent) = (curve(random), random.below(4) as u8);
     Encoding::rgb(White::own(wx, wy), Primaries::own(xy), curve, intent)
@@ -46,18 +47,27 @@ fn on_one_line(random: &mut Random) -> Encoding {
 
 /// Every branch and both sides of every boundary.
 pub fn boundary() -> Vec<Encoding> {
-    let mut all = named();
-    all.extend(own_as_named());
-    all.extend(gammas());
-    all.extend(gray_whites());
-    all.extend(rgb_whites());
-    all.extend(order_of_refusals());
-    all.extend(chad_edges());
-    all.extend(determinant_edges());
-    all.extend(column_edges());
-    all.extend(odd_coordinates());
-    all.extend(long_texts());
-    all
+    boundary_groups()
+        .into_iter()
+        .flat_map(|group| group.1)
+        .collect()
+}
+
+/// The same, group by group, each with its name.
+pub fn boundary_groups() -> Vec<(&'static str, Vec<Encoding>)> {
+    vec![
+        ("all combinations of the named kinds", named()),
+        ("own coordinates that are a named kind's", own_as_named()),
+        ("gammas", gammas()),
+        ("gray whites at their boundaries", gray_whites()),
+        ("RGB whites at their boundaries", rgb_whites()),
+        ("two refusals or more: the order shows", order_of_refusals()),
+        ("numbers of chad that just fit, or not", chad_edges()),
+        ("determinants about 1e-12", determinant_edges()),
+        ("columns that just fit, or not", column_edges()),
+        ("coordinates that stand apart", odd_coordinates()),
+        ("long texts", long_texts()),
+    ]
 }
 
 /// All combinations of the named kinds.

@@ -1,0 +1,35 @@
+#!/bin/sh
+# Tries this repository's library on the conformance list, and the Rust itself where differential/build.sh has built it. Then shows that try.py notices
+# mistakes: each of three programs that answer one thing wrong must be told so.
+#
+#   conformance/test.sh [OUT]
+set -eu
+
+here=$(cd "$(dirname "$0")" && pwd)
+top=$(cd "$here/.." && pwd)
+out=${1:-$top/target/conformance}
+judge=$top/target/differential/target/release/judge
+mkdir -p "$out"
+
+(cd "$top" && rt staticlib host) >"$out/staticlib.log" 2>&1 || { tail -n 20 "$out/staticlib.log"; exit 1; }
+cc -std=c99 -O2 -Wall -Wextra -pedantic -I"$top/include" "$here/merqyduk.c" "$top/target/staticlib/libhost.a" -o "$out/merqyduk"
+echo "the library:"
+python3 "$here/try.py" "$out/merqyduk"
+
+if [ -x "$judge" ]; then
+    echo "the Rust:"
+    python3 "$here/try.py" "$judge" answer | tail -n 1
+    # The list that is kept is the one that the Rust gives.
+    "$judge" conformance 1 | cmp - "$here/encodings.txt"
+fi
+
+# A wrong program: ours, with its output changed.
+wrong() {
+    status=0
+    python3 "$here/try.py" sh -c "'$out/merqyduk' | $2" >"$out/wrong.log" || status=$?
+    [ "$status" -eq 1 ] || { echo "try.py did not notice: $1 (status $status)"; exit 1; }
+    echo "noticed: $1: $(tail -n 1 "$out/wrong.log")"
+}
+wrong "7 answered as 5" "sed 's/^refused 7\$/refused 5/'"
+wrong "the last digit of one profile" "sed '1s/.\$/f/'"
+wrong "an answer left out" "sed '3600d'"

@@ -1,0 +1,149 @@
+#!/usr/bin/env python3
+"""Checks SUPPLIER.md: its constants, and the right numbers of its tables.
+
+  docs/check_supplier.py [SRC]
+
+Each constant is worked out exactly from the decimal that the Rust has and rounded to its width, and held against the bits in the table; the bits
+must stand in the file of the definition. With SRC, the folder of the Rust's sources, each decimal must stand there too. Each right number of a case must be
+in the case's profile in conformance/encodings.txt. The status is 1 if something differs.
+"""
+
+import pathlib
+import re
+import sys
+from fractions import Fraction
+
+TOP = pathlib.Path(__file__).resolve().parent.parent
+# significand, exponent and all digits of a width
+WIDTHS = {"f32": (24, 8), "f64": (53, 11)}
+PLACES = [f"chad {i}" for i in range(9)] + [c + a for c in "rgb" for a in "XYZ"]
+GROUP = "# roundings, orders and widths: the inputs of docs/SUPPLIER.md"
+
+
+def bits_of(value, width):
+    """The bits of the number of a width that is nearest to a fraction, ties to even; normal numbers only."""
+    digits, exponent_digits = WIDTHS[width]
+    sign, value, power = value < 0, abs(value), 0
+    while value >= 2 ** digits:
+        value, power = value / 2, power + 1
+    while value < 2 ** (digits - 1):
+        value, power = value * 2, power - 1
+    whole = round(value)  # of a Fraction: ties to even
+    if whole == 2 ** digits:
+        whole, power = whole // 2, power + 1
+    field = power + digits - 1 + 2 ** (exponent_digits - 1) - 1
+    return (sign << (digits + exponent_digits - 1)) + (field << (digits - 1)) + whole - 2 ** (digits - 1)
+
+
+def value_of(bits, width):
+    digits, exponent_digits = WIDTHS[width]
+    field = bits >> (digits - 1) & (2 ** exponent_digits - 1)
+    whole = bits % 2 ** (digits - 1) + 2 ** (digits - 1)
+    power = field - (2 ** (exponent_digits - 1) - 1) - (digits - 1)
+    return Fraction(whole) * Fraction(2) ** power * (-1 if bits >> (digits + exponent_digits - 1) else 1)
+
+
+def rounded(text, width):
+    return value_of(bits_of(Fraction(text.replace("_", "")), width), width)
+
+
+def constant(text, width):
+    """The bits of a decimal, of a quotient of two, or of a cube root."""
+    if text.startswith("cbrt "):
+        exact = rounded(text[5:], width)
+        scale = 2 ** 90
+        root = Fraction(integer_root(exact.numerator * scale ** 3 // exact.denominator), scale)
+        return bits_of(root, width)
+    parts = [rounded(part, width) for part in text.split(" / ")]
+    return bits_of(parts[0] / parts[1] if len(parts) == 2 else parts[0], width)
+
+
+def integer_root(n):
+    low, high = 0, 1 << (n.bit_length() // 3 + 2)
+    while high - low > 1:
+        middle = (low + high) // 2
+        low, high = (middle, high) if middle ** 3 <= n else (low, middle)
+    return low
+
+
+def rows(columns):
+    """The rows of the tables of SUPPLIER.md that have these columns."""
+    head = False
+    for line in (TOP / "docs" / "SUPPLIER.md").read_text(encoding="utf-8").split("\n"):
+        cells = [cell.strip() for cell in re.split(r"(?<!\\)\|", line)[1:-1]]
+        if cells == columns:
+            head = True
+        elif not cells:
+            head = False
+        elif head and not set("".join(cells)) <= set("-"):
+            yield cells
+
+
+def check_constants(source):
+    rust = "".join(path.read_text() for path in source.rglob("*.rs")).replace("_", "") if source else None
+    count = 0
+    for what, texts, width, bits, definition in rows(["what", "in the Rust", "width", "bits", "definition"]):
+        crate, file = re.fullmatch(r"`(\w+)/(\w+)#\w+`", definition).groups()
+        specification = (TOP / "crates" / crate / "specs" / f"{file}.antt").read_text(encoding="utf-8").replace("_", "")
+        texts, bits = texts.split(", "), bits.split(", ")
+        if len(texts) != len(bits):
+            yield f"{what}: {len(texts)} constants, {len(bits)} patterns of bits"
+        for text, pattern in zip(texts, bits):
+            count += 1
+            found = constant(text, width)
+            if found != int(pattern, 16):
+                yield f"{what}: {text} is {found:x}, not {pattern}"
+            if f"0x{pattern}" not in specification:
+                yield f"{what}: {pattern} is not in {crate}/{file}"
+            for decimal in re.findall(r"[\d.e_]+(?:-\d+)?", text.removeprefix("-")):
+                if rust is not None and decimal.replace("_", "") not in rust:
+                    yield f"{what}: {decimal} is not in the Rust"
+    print(f"{count} constants")
+
+
+def cases():
+    """The answers of the cases, in order."""
+    lines = (TOP / "conformance" / "encodings.txt").read_text().split("\n")
+    start = lines.index(GROUP) + 1
+    end = next(i for i in range(start, len(lines)) if lines[i].startswith("#"))
+    return [line.split(" = ")[1] for line in lines[start:end]]
+
+
+def numbers_of(profile):
+    """The fixed numbers of a profile by their names in the tables."""
+    word = lambda at: int.from_bytes(profile[at:at + 4], "big", signed=True)
+    lines = range(132, 132 + 12 * word(128), 12)
+    offsets = {profile[at:at + 4].decode(): word(at + 4) for at in lines}
+    if "kTRC" in offsets:
+        return {"wX": word(offsets["wtpt"] + 8), "wZ": word(offsets["wtpt"] + 16), "gamma": word(offsets["kTRC"] + 12)}
+    places = [offsets["chad"] + 8 + 4 * i for i in range(9)]
+    places += [offsets[c + "XYZ"] + 8 + 4 * i for c in "rgb" for i in range(3)]
+    return dict(zip(PLACES, map(word, places)))
+
+
+def check_cases():
+    answers, count = cases(), 0
+    for mistake, case, number, right, _, _ in rows(["mistake", "case", "number", "right", "wrong", "lines"]):
+        if not case:
+            continue
+        count += 1
+        answer = answers[int(case.removeprefix("S")) - 1]
+        if answer.startswith("refused") or not number:
+            found = answer if answer.startswith("refused") else "accepted"
+        else:
+            found = str(numbers_of(bytes.fromhex(answer.split(" ")[2]))[number])
+        if found != right:
+            yield f"{mistake}: {case} {number} is {found}, not {right}"
+    print(f"{count} numbers of {len(answers)} cases")
+
+
+def main():
+    source = pathlib.Path(sys.argv[1]) if len(sys.argv) > 1 else None
+    wrong = list(check_constants(source)) + list(check_cases())
+    for line in wrong:
+        print(line)
+    return 1 if wrong else 0
+
+
+if __name__ == "__main__":
+    sys.exit(main())
