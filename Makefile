@@ -16,6 +16,9 @@ RT = rt
 
 include_to = $(DESTDIR)$(INCLUDEDIR)
 lib_to = $(DESTDIR)$(LIBDIR)
+# As merqyduk.pc has them: from its own prefix on, where they stand below it.
+pc_include = $(patsubst $(PREFIX)/%,$${prefix}/%,$(INCLUDEDIR))
+pc_lib = $(patsubst $(PREFIX)/%,$${prefix}/%,$(LIBDIR))
 library = build/libmerqyduk.a
 version = $(shell sed -n 's/.*MERQYDUK_VERSION_STRING "\(.*\)"/\1/p' include/merqyduk.h)
 sources = crates.txt $(shell find crates -name must-fail -prune -o -type f \( -name '*.rt' -o -name '*.antt' \) -print)
@@ -39,7 +42,7 @@ install: $(library)
 	install -d '$(include_to)' '$(lib_to)/pkgconfig'
 	install -m 644 include/merqyduk.h include/merqyduk.hpp '$(include_to)'
 	install -m 644 $(library) '$(lib_to)'
-	sed 's|@PREFIX@|$(PREFIX)|; s|@INCLUDEDIR@|$(INCLUDEDIR)|; s|@LIBDIR@|$(LIBDIR)|; s|@VERSION@|$(version)|' host/merqyduk.pc.in >'$(lib_to)/pkgconfig/merqyduk.pc'
+	sed 's|@PREFIX@|$(PREFIX)|; s|@INCLUDEDIR@|$(pc_include)|; s|@LIBDIR@|$(pc_lib)|; s|@VERSION@|$(version)|' host/merqyduk.pc.in >'$(lib_to)/pkgconfig/merqyduk.pc'
 
 uninstall:
 	rm -f '$(include_to)/merqyduk.h' '$(include_to)/merqyduk.hpp' '$(lib_to)/libmerqyduk.a' '$(lib_to)/pkgconfig/merqyduk.pc'
