@@ -64,6 +64,29 @@ put-behind l at q = rw (zero-add (length q), drop-drop (length q) at l)
 pub put-over : (p o r q : List ℕ) (i : ℕ) → length p ≡ i → length q ≡ length o → put (p ++ (o ++ r)) i q ≡ p ++ (q ++ r)
 put-over p o r q i e h = put-after p (o ++ r) q i e ∙ ap (λ (s : List ℕ). p ++ (q ++ s)) (drop-at o r (length q) (sym h))
 
+-- the first bytes, put where they are
+pub put-back : (l q : List ℕ) (n : ℕ) → take n l ≡ q → put l 0 q ≡ l
+put-back l q n e =
+    ap (λ (x : List ℕ). put x 0 q) (sym (take-append-drop n l))
+    ∙ put-over [] (take n l) (drop n l) q 0 refl (ap length (sym e))
+    ∙ ap (λ (x : List ℕ). x ++ drop n l) (sym e)
+    ∙ take-append-drop n l
+
+-- bytes put over fewer, from the front on
+pub put-longer : (l q r : List ℕ) → length q ≤ length r → put (put l 0 q) 0 r ≡ put l 0 r
+put-longer l q r h =
+    let k : ℕ = length r - length q in
+    let split : length r ≡ length q + k = omega arith in
+    let rest : drop (length r) (q ++ drop (length q) l) ≡ drop (length r) l =
+    ap (λ (n : ℕ). drop n (q ++ drop (length q) l)) split
+    ∙ drop-append-add q (drop (length q) l) k ∙ drop-drop k (length q) l
+    ∙ ap (λ (n : ℕ). drop n l) (sym split)
+    in
+    ap (λ (x : List ℕ). put x 0 r) (put-after [] l q 0 refl)
+    ∙ put-after [] (q ++ drop (length q) l) r 0 refl
+    ∙ ap (λ (x : List ℕ). r ++ x) rest
+    ∙ sym (put-after [] l r 0 refl)
+
 -- bytes put in again, within what was put at the front
 pub put-within : (l p : List ℕ) (i : ℕ) (q : List ℕ) → i + length q ≤ length p → put (put l 0 p) i q ≡ put l 0 (put p i q)
 unfolding put

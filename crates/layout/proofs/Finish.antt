@@ -1,15 +1,15 @@
 -- The layout from header, tag table, elements, and then the intent and the id. Assumes nothing.
-use Prim.Native.Nat.{ℕ, _+_, _*_, _-_, _≤_}
+use Prim.Native.Nat.{ℕ, _+_, _*_, _≤_}
 use mathlib.Core.Path.{_≡_, refl, ap, ap₂, sym, _∙_}
-use mathlib.Core.List.{List, [], _++_, append-assoc}
+use mathlib.Core.List.{List, _++_, append-assoc}
 use native.Mathlib.Nat.{zero-add}
 use native.Mathlib.Omega.{arith}
-use lib.ListN.{length, take, drop, take-append-drop}
-use lib.Seq.{drop-drop, drop-append-add, length-take-le}
+use lib.ListN.{length, take}
+use lib.Seq.{length-take-le}
 use Rattle.words.specs.Words.{be32}
 use Rattle.words.specs.WordsLaws.{length-be32}
 use Rattle.buffer.specs.Buffer.{put}
-use Rattle.buffer.specs.BufferLaws.{length-put, take-put, put-put, put-after, put-over, put-within}
+use Rattle.buffer.specs.BufferLaws.{length-put, take-put, put-put, put-back, put-longer, put-within}
 use Rattle.buffer.specs.Bytes.{zeros}
 use Rattle.buffer.specs.Puts.{Puts}
 use Rattle.buffer.specs.PutsLaws.{joined}
@@ -23,33 +23,6 @@ use Rattle.profile.specs.Layout.{header, elements, slots, withId, blanked, layo
 use Rattle.profile.specs.LayoutLaws.{length-header, plan-fours, length-layout, blanked-withId, layout-last}
 use Rattle.profile.specs.Shape.{shape, slotsOf, maxLength}
 use Rattle.layout.specs.Begun.{Begun}
-
--- ---- bytes put into the front of a list
-
--- those that are there
-put-back : (l q : List ℕ) (n : ℕ) → take n l ≡ q → put l 0 q ≡ l
-put-back l q n e =
-    ap (λ (x : List ℕ). put x 0 q) (sym (take-append-drop n l))
-    ∙ put-over [] (take n l) (drop n l) q 0 refl (ap length (sym e))
-    ∙ ap (λ (x : List ℕ). x ++ drop n l) (sym e)
-    ∙ take-append-drop n l
-
--- over fewer
-put-longer : (l q r : List ℕ) → length q ≤ length r → put (put l 0 q) 0 r ≡ put l 0 r
-put-longer l q r h =
-    let k : ℕ = length r - length q in
-    let split : length r ≡ length q + k = omega arith in
-    let rest : drop (length r) (q ++ drop (length q) l) ≡ drop (length r) l =
-    ap (λ (n : ℕ). drop n (q ++ drop (length q) l)) split
-    ∙ drop-append-add q (drop (length q) l) k ∙ drop-drop k (length q) l
-    ∙ ap (λ (n : ℕ). drop n l) (sym split)
-    in
-    ap (λ (x : List ℕ). put x 0 r) (put-after [] l q 0 refl)
-    ∙ put-after [] (q ++ drop (length q) l) r 0 refl
-    ∙ ap (λ (x : List ℕ). r ++ x) rest
-    ∙ sym (put-after [] l r 0 refl)
-
--- ---- the parts of the layout
 
 -- the header while the intent and the id are zero
 abbrev pub blank : Plan → ℕ → List ℕ
