@@ -1,5 +1,6 @@
--- Demand 3, whole, over what the calls hand out: the struct that `read` answers, and the answer and the output of `maybe_create_profile`. `layout`
--- is what a plan lays out to, `told` the plan that the reader's struct tells. Assumes nothing.
+-- Demand 3, whole, over what the calls hand out: the struct that `read` answers, the answer and the record of `merqyduk_read`, and the answer and the
+-- output of `maybe_create_profile`. `layout` is what a plan lays out to, `told` the plan that the reader's struct tells, `readingBy` the struct that a
+-- C struct's bytes tell. Assumes nothing.
 use Prim.Native.Nat.{ℕ, _≤_}
 use mathlib.Core.Path.{_≡_, sym}
 use mathlib.Core.Logic.{_↔_}
@@ -20,6 +21,8 @@ use Rattle.reader_spec.specs.Owners.{Owned}
 use Rattle.reader_spec.specs.Accepts as Accepts
 use Rattle.reading.specs.Reading.{reading}
 use Rattle.reading.specs.declared.Reading.{Reading}
+use Rattle.plan_record.specs.PlanRecord.{recordSize, readingBy}
+use Rattle.host.specs.Host.{ReadsPlan}
 use Rattle.demands.specs.Told.{told}
 use Rattle.demands.specs.Demand3Laws as Laws
 use Rattle.demands.specs.Demand3Laws.{front-of}
@@ -50,6 +53,25 @@ module _ (f : List ℕ) (r : Reading) (h : Reads f r) where
 -- no other plan lays out to the same bytes
 pub one-plan : (p q : Plan) → Valid p → Valid q → layout p ≡ layout q → p ≡ q
 one-plan p q v w e = Accepts.one-plan p q v w e
+
+-- ---- the reader from C
+
+-- `merqyduk_read` ensures that it answers r to the file f, and that the record that it was lent holds `after` at exit, `before` at entry
+abbrev pub ReadsInC : List ℕ → List ℕ → List ℕ → ℕ → Type 0
+ReadsInC f before after r = ReadsPlan (reading (read f)) before after r
+
+module _ (f before after : List ℕ) (r : ℕ) (h : ReadsInC f before after r) where
+  -- it answers 0 exactly when some plan lays out to the file and the record has room for the struct
+  pub accepts-in-c : (r ≡ 0) ↔ (((p : Plan) × Valid p × (layout p ≡ f)) × (recordSize ≤ length before))
+  accepts-in-c = Laws.accepts-in-c f before after r h
+
+  -- then the bytes of the record tell that plan, as the reader's struct does
+  pub answers-in-c : r ≡ 0 → (p : Plan) → (told (readingBy after) ≡ is p) ↔ (Valid p × (layout p ≡ f))
+  answers-in-c zero p = Laws.answers f (readingBy after) (Laws.stored f before after r h zero) p
+
+  -- it answers the number of the first check of 01's list that the file does not pass, however long the record is
+  pub refuses-in-c : (c : Check) → (r ≡ number c) ↔ FirstFailing f checks c
+  refuses-in-c c = Laws.refuses-in-c f before after r h c
 
 -- ---- the writer
 

@@ -1,14 +1,16 @@
--- Lemmas of demand 3: what the reader's struct tells by what `read` answers, and what stands at the front of the writer's output. Assumes nothing.
+-- Lemmas of demand 3: what the reader's struct tells by what `read` answers, what the record of a C call tells, and what stands at the front of the
+-- writer's output. Assumes nothing.
 use Prim.Native.Nat.{ℕ, _≤_}
 use mathlib.Core.Path.{_≡_, refl, ap, sym, _∙_}
 use mathlib.Core.Logic.{_↔_}
 use mathlib.Core.Bool.{Bool, true, false, cond}
-use mathlib.Core.List.{List}
+use mathlib.Core.List.{List, []}
 use native.Mathlib.Omega.{arith}
-use lib.Dec.{leb}
-use lib.ListN.{length, take}
+use borrow.Author.Tests.{le-leb, leb-true, ne-eqb}
+use lib.Dec.{eqb, leb}
+use lib.ListN.{length, take, drop}
 use Rattle.buffer.specs.Buffer.{put}
-use Rattle.buffer.specs.BufferLaws.{take-put}
+use Rattle.buffer.specs.BufferLaws.{put-after, take-put}
 use Rattle.buffer.specs.Checked.{Checked, is, refused as refusedBy}
 use Rattle.buffer.specs.CheckedLaws.{never}
 use Rattle.profile.specs.Plan.{Plan, Valid}
@@ -23,6 +25,9 @@ use Rattle.reader_spec.specs.Owners.{Owned}
 use Rattle.reader_spec.specs.Accepts.{accepts-exactly, accepted-owned}
 use Rattle.reading.specs.Reading.{reading}
 use Rattle.reading.specs.declared.Reading.{Reading}
+use Rattle.plan_record.specs.PlanRecord.{recordSize, planRecord, readingBy}
+use Rattle.plan_record.specs.RecordTold.{record-told}
+use Rattle.host.specs.Host.{readNumber, ReadsPlan}
 use Rattle.demands.specs.Demand2Laws.{written-not-refused}
 use Rattle.demands.specs.Told.{told}
 use Rattle.demands.specs.ToldLaws.{checkBy, check-back, number-above, plan-told, refusal-told}
@@ -32,8 +37,11 @@ use Rattle.demands.specs.ToldLaws.{checkBy, check-back, number-above, pl
 same-plan : {p q : Plan} → is q ≡ is p → q ≡ p
 same-plan e = cc
 
+same-number : {c d : Check} → number d ≡ number c → d ≡ c
+same-number {c} {d} n = sym (check-back d) ∙ ap checkBy n ∙ check-back c
+
 same-check : {c d : Check} → _≡_ {A = Checked Plan} (refusedBy (number d)) (refusedBy (number c)) → d ≡ c
-same-check {c} {d} e = let n : number d ≡ number c = cc in sym (check-back d) ∙ ap checkBy n ∙ check-back c
+same-check e = same-number (cc)
 
 first-if : {f : List ℕ} {c : Check} → Answers f (refused c) → FirstFailing f checks c
 first-if (by-list h) = h
@@ -81,6 +89,71 @@ module _ (f : List ℕ) (r : Reading) (h : r ≡ reading (read f)) where
 
   pub owned : r .refusal ≡ 0 → Owned f × (minLength ≤ length f) × (length f ≤ maxLength)
   owned zero = let q = plan-if zero in accepted-owned f (q .0) (q .1)
+
+-- ---- the reader from C
+
+number-answered : (c : Check) (n : ℕ) → readNumber (reading (refused c)) n ≡ number c
+number-answered c n = rw (ne-eqb (number c) 0 (λ z. omega (arith, number-above c)))
+
+refusal-not-zero : (c : Check) (n : ℕ) → 0 ≡ readNumber (reading (refused c)) n → ⊥
+refusal-not-zero c n e = omega (arith, number-above c, e ∙ number-answered c n)
+
+-- where the answer is 0 the record holds the struct
+in-record : (a : Reading) (before : List ℕ) {after : List ℕ} {n : ℕ} → 0 ≡ n → after ≡ cond (eqb n 0) (put before 0 (planRecord a)) before → after ≡ put before 0 (planRecord a)
+in-record a before zero e = rw (← zero) at e
+
+module _ (f before after : List ℕ) (r : ℕ) (h : ReadsPlan (reading (read f)) before after r) where
+  answered : (a : Answer) → read f ≡ a → r ≡ readNumber (reading a) (length before)
+  answered a e = h .answer ∙ ap (λ (x : Answer). readNumber (reading x) (length before)) e
+
+  -- an accepted file's plan, and a record that has room
+  plan-and-room : r ≡ 0 → ((p : Plan) × (read f ≡ accepted p)) × (recordSize ≤ length before)
+  plan-and-room zero = go (read f) refl
+    where
+      room : (b : Bool) → leb recordSize (length before) ≡ b → 0 ≡ cond b 0 tooShort → recordSize ≤ length before
+      room true e z = leb-true recordSize (length before) e
+      room false e z = absurd (omega arith)
+
+      go : (a : Answer) → read f ≡ a → ((p : Plan) × (read f ≡ accepted p)) × (recordSize ≤ length before)
+      go (accepted p) e = ((p, e), room (leb recordSize (length before)) refl (sym zero ∙ answered (accepted p) e))
+      go (refused c) e = absurd (refusal-not-zero c (length before) (sym zero ∙ answered (refused c) e))
+
+  -- the record tells the reader's struct
+  pub stored : r ≡ 0 → readingBy after ≡ reading (read f)
+  stored zero =
+      let q = plan-and-room zero in
+      let p = q .0 .0 in
+      let e = q .0 .1 in
+      let bytes = planRecord (reading (accepted p)) in
+      ap readingBy
+      (in-record (reading (read f)) before (sym zero ∙ h .answer) (h .plan)
+      ∙ ap (λ (a : Answer). put before 0 (planRecord (reading a))) e
+      ∙ put-after [] before bytes 0 refl)
+      ∙ record-told p (accepts-exactly f p .0 e .0) (drop (length bytes) before)
+      ∙ sym (ap reading e)
+
+  pub accepts-in-c : (r ≡ 0) ↔ (((p : Plan) × Valid p × (layout p ≡ f)) × (recordSize ≤ length before))
+  accepts-in-c = (
+    λ zero. let q = plan-and-room zero in let v = accepts-exactly f (q .0 .0) .0 (q .0 .1) in ((q .0 .0, v .0, v .1), q .1),
+    λ s. answered (accepted (s .0 .0)) (accepts-exactly f (s .0 .0) .1 (s .0 .1, s .0 .2)) ∙ rw (le-leb recordSize (length before) (s .1)),
+  )
+
+  pub refuses-in-c : (c : Check) → (r ≡ number c) ↔ FirstFailing f checks c
+  refuses-in-c c = (λ t. go t (read f) refl, λ first. refused-number c (read-is f (refused c) (by-list first)))
+    where
+      refused-number : (c : Check) → read f ≡ refused c → r ≡ number c
+      refused-number c e = answered (refused c) e ∙ number-answered c (length before)
+
+      small : (b : Bool) → cond b 0 tooShort ≤ 9
+      small true = omega arith
+      small false = omega arith
+
+      go : r ≡ number c → (a : Answer) → read f ≡ a → FirstFailing f checks c
+      go t (accepted q) e = absurd (omega (arith, number-above c, small (leb recordSize (length before)), answered (accepted q) e, t))
+      go t (refused d) e =
+          let same : d ≡ c = same-number (sym (refused-number d e) ∙ t) in
+          let listed : Answers f (refused d) = rw e at (read-answers f) in
+          rw (← same) (first-if listed)
 
 -- ---- the writer
 
