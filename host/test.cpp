@@ -1,6 +1,6 @@
-// Calls the entries of include/merqyduk.h as a board would: the examples of 01, outputs of every length up to the profile's, outputs and jobs
-// that end at a page that may not be touched, numbers without meaning, and jobs that are cut or have bytes left. Writes the accepted profiles
-// into the folder that it is given.
+// Calls the entries of include/merqyduk.h as a board would: the examples of 01, outputs of every length up to the profile's, outputs, jobs and
+// files that end at a page that may not be touched, numbers without meaning, and jobs that are cut or have bytes left. Reads each profile back,
+// finds its elements, and has files refused by each number. Writes the accepted profiles into the folder that it is given.
 #include "merqyduk.h"
 
 #include <sys/mman.h>
@@ -8,6 +8,7 @@
 
 #include <algorithm>
 #include <cmath>
+#include <cstddef>
 #include <cstdio>
 #include <cstdlib>
 #include <cstring>
@@ -151,6 +152,176 @@ std::string text(const std::vector<uint8_t> &f) {
     return letters;
 }
 
+// ---- a profile read back
+
+// The struct as `planRecord` of crates/plan_record lays it out.
+static_assert(sizeof(merqyduk_plan) == 476, "the size of the struct");
+static_assert(offsetof(merqyduk_plan, kind) == 0 && offsetof(merqyduk_plan, intent) == 4, "kind and intent");
+static_assert(offsetof(merqyduk_plan, curve) == 8 && offsetof(merqyduk_plan, gamma) == 12, "the curve");
+static_assert(offsetof(merqyduk_plan, cicp) == 16, "cicp");
+static_assert(offsetof(merqyduk_plan, white_x) == 20 && offsetof(merqyduk_plan, white_z) == 24, "the white");
+static_assert(offsetof(merqyduk_plan, chad) == 28 && offsetof(merqyduk_plan, columns) == 64, "chad and columns");
+static_assert(offsetof(merqyduk_plan, letters) == 100 && offsetof(merqyduk_plan, text) == 104, "the text");
+
+// What was asked of the writer. The kinds are gray 1, RGB 2 and XYB 3.
+struct Asked {
+    uint32_t kind, intent, curve;
+    float gamma;
+};
+
+// Nine numbers of a file, from bytes of elements one after another; zeros where there are none.
+std::vector<int32_t> nine(const Bytes &bytes) {
+    std::vector<int32_t> numbers;
+    for (size_t at = 0; at < bytes.size(); at += 4) numbers.push_back(int32_t(word(bytes, at)));
+    numbers.resize(9);
+    return numbers;
+}
+
+// The numbers of an element, which follow eight bytes of type and reserved bytes.
+Bytes numbers_of(const Bytes &f, const char *signature) {
+    Bytes e = element(f, signature);
+    return e.empty() ? e : Bytes(e.begin() + 8, e.end());
+}
+
+// The plan of a profile by what was asked and by the file's own tag table.
+merqyduk_plan plan_of(const Bytes &f, const Asked &asked) {
+    merqyduk_plan plan{};
+    plan.kind = asked.kind;
+    if (asked.kind == 3) return plan;
+    plan.intent = asked.intent;
+    plan.curve = asked.curve;
+    if (asked.curve == MERQYDUK_CURVE_GAMMA)
+        plan.gamma = int32_t(std::lround(double(1.0f / asked.gamma) * 65536));
+    Bytes cicp = element(f, "cicp");
+    if (!cicp.empty()) plan.cicp = cicp[8];
+    if (asked.kind == 1) {
+        const std::vector<int32_t> white = nine(numbers_of(f, "wtpt"));
+        plan.white_x = white[0];
+        plan.white_z = white[2];
+    } else {
+        const std::vector<int32_t> chad = nine(numbers_of(f, "chad"));
+        std::copy(chad.begin(), chad.end(), plan.chad);
+        Bytes columns;
+        for (const char *signature : {"rXYZ", "gXYZ", "bXYZ"})
+            for (uint8_t byte : numbers_of(f, signature)) columns.push_back(byte);
+        const std::vector<int32_t> column_numbers = nine(columns);
+        std::copy(column_numbers.begin(), column_numbers.end(), plan.columns);
+    }
+    const std::string letters = text(f);
+    plan.letters = uint32_t(letters.size());
+    std::copy(letters.begin(), letters.end(), plan.text);
+    return plan;
+}
+
+// The plan is stored at the front of every record that has room, and no shorter record is touched.
+void reads(const std::string &name, const Bytes &f, const Asked &asked) {
+    const merqyduk_plan expected = plan_of(f, asked);
+    merqyduk_plan plan;
+    expect(merqyduk_read(f.data(), f.size(), &plan, sizeof plan) == 0, name + " is read");
+    expect(std::memcmp(&plan, &expected, sizeof plan) == 0, name + " has the plan that was asked for");
+    expect(merqyduk_read(f.data(), f.size(), nullptr, 0) == 9, name + " read into no record");
+    for (bool at_end : {false, true}) {
+        auto file = guarded(f, at_end);
+        for (size_t n : {size_t(0), size_t(1), size_t(104), size_t(475)}) {
+            Guarded record(n, at_end);
+            expect(merqyduk_read(file->data(), f.size(), record.data(), n) == 9, name + " read into a short record");
+            expect(record.unchanged_from(0), name + " leaves a short record unchanged");
+        }
+        for (size_t n : {size_t(476), size_t(477), size_t(4096)}) {
+            Guarded record(n, at_end);
+            expect(merqyduk_read(file->data(), f.size(), record.data(), n) == 0, name + " read into a long record");
+            expect(std::memcmp(record.data(), &expected, 476) == 0, name + " has its plan at the front");
+            expect(record.unchanged_from(476), name + " leaves the rest of the record unchanged");
+        }
+    }
+}
+
+// Every tag of the file's table is found where the table says, and no other.
+void finds(const std::string &name, const Bytes &f) {
+    auto file = guarded(f, true);
+    for (uint32_t i = 0; i < word(f, 128); i++) {
+        const size_t at = 132 + 12 * size_t(i);
+        uint32_t offset = 0xdeadbeefu;
+        expect(merqyduk_find(file->data(), f.size(), word(f, at), &offset) == word(f, at + 8), name + " has its tag");
+        expect(offset == word(f, at + 4), name + " has its tag at its place");
+    }
+    // `gamt`, the bytes of `desc` the other way round, and numbers at the ends
+    for (uint32_t signature : {0x67616d74u, 0x63736564u, 0u, 0xffffffffu}) {
+        uint32_t offset = 0xdeadbeefu;
+        expect(merqyduk_find(file->data(), f.size(), signature, &offset) == 0, name + " has no such tag");
+        expect(offset == 0xdeadbeefu, name + " leaves the offset of no tag unchanged");
+    }
+}
+
+// A profile that is written, read back, and its elements found.
+Bytes profile(const std::string &name, uint32_t length, const Call &call, const Asked &asked) {
+    const Bytes f = writes(name, length, call);
+    reads(name, f, asked);
+    finds(name, f);
+    return f;
+}
+
+// ---- files that are refused
+
+Bytes with(Bytes bytes, size_t at, uint8_t byte) {
+    bytes[at] = byte;
+    return bytes;
+}
+
+Bytes with_number(Bytes bytes, size_t at, int32_t number) {
+    for (size_t i = 0; i < 4; i++) bytes[at + i] = uint8_t(uint32_t(number) >> (24 - 8 * i));
+    return bytes;
+}
+
+// The reader's number comes before 9; nothing is found in such a file.
+void refuses_file(const std::string &name, uint32_t number, const Bytes &f) {
+    for (bool at_end : {false, true}) {
+        auto file = guarded(f, at_end);
+        for (size_t n : {size_t(0), size_t(475), size_t(476), size_t(4096)}) {
+            Guarded record(n, at_end);
+            expect(merqyduk_read(file->data(), f.size(), record.data(), n) == number,
+                   name + " refused " + std::to_string(number));
+            expect(record.unchanged_from(0), name + " leaves the record unchanged");
+        }
+        uint32_t offset = 0xdeadbeefu;
+        expect(merqyduk_find(file->data(), f.size(), 0x64657363u, &offset) == 0, name + " has no element");
+        expect(offset == 0xdeadbeefu, name + " leaves the offset unchanged");
+    }
+}
+
+void bad_files(const Bytes &srgb, const Bytes &gray, const Bytes &xyb) {
+    expect(merqyduk_read(nullptr, 0, nullptr, 0) == 21, "no file and no record");
+    for (size_t n : {size_t(0), size_t(1), size_t(131)})
+        refuses_file("a file cut to " + std::to_string(n), 21, Bytes(srgb.begin(), srgb.begin() + n));
+    for (size_t n : {size_t(132), size_t(503)})
+        refuses_file("a file cut to " + std::to_string(n), 22, Bytes(srgb.begin(), srgb.begin() + n));
+    Bytes longer = srgb;
+    longer.push_back(0);
+    refuses_file("a file with a byte left", 22, longer);
+    refuses_file("a wrong size field", 22, with(srgb, 3, uint8_t(srgb[3] + 4)));
+    refuses_file("another class", 23, with(srgb, 12, 'x'));
+    refuses_file("gray's space in an RGB file", 23, with(srgb, 16, 'G'));
+    refuses_file("another signature", 23, with(srgb, 36, 'x'));
+    refuses_file("intent 4", 24, with(srgb, 67, 4));
+    refuses_file("XYB Relative", 24, with(xyb, 67, 1));
+    refuses_file("another number of tags", 25, with(srgb, 131, uint8_t(srgb[131] - 1)));
+    refuses_file("another offset", 25, with(srgb, 139, uint8_t(srgb[139] + 4)));
+    refuses_file("a letter above 127", 26, with(srgb, word(srgb, 136) + 29, 128));
+    refuses_file("another type", 26, with(gray, word(gray, 136), 'x'));
+    refuses_file("a number of XYB", 26, with(xyb, xyb.size() - 1, uint8_t(xyb.back() ^ 1)));
+    // The third line of gray's table is `wtpt`, whose X follows eight bytes.
+    const size_t white = word(gray, 160) + 8;
+    refuses_file("a white above its range", 27, with_number(gray, white, 2147483265));
+    refuses_file("a white below its range", 27, with_number(gray, white, -2147483265));
+    refuses_file("another white", 28, with_number(gray, white, 2147483264));
+    refuses_file("another id", 28, with(srgb, 99, uint8_t(srgb[99] ^ 1)));
+    Bytes no_id = srgb;
+    std::fill(no_id.begin() + 84, no_id.begin() + 100, 0);
+    refuses_file("no id", 28, no_id);
+}
+
+// ---- jobs
+
 // A job answers 0 and its number of entries, and has no entry past them; or it is refused, and with it each of its entries.
 void counts(const std::string &name, uint32_t entries, const Bytes &job) {
     for (bool at_end : {false, true}) {
@@ -170,11 +341,6 @@ void refuses_job(const std::string &name, uint32_t number, const Bytes &job) {
         expect(told == 0xdeadbeefu, name + " leaves the number of entries unchanged");
     }
     for (size_t i : {size_t(0), size_t(1), size_t(2), SIZE_MAX}) refuses(name, number, entry(job, i));
-}
-
-Bytes with(Bytes job, size_t at, uint8_t byte) {
-    job[at] = byte;
-    return job;
 }
 
 // The job of 01: one RGB entry, sRGB, and one XYB entry, Relative.
@@ -252,23 +418,33 @@ int main(int argc, char **argv) {
     const Primaries red_twice{0.6399987f, 0.33001015f, 0.6399987f, 0.33001015f, 0.15000205f, 0.059997204f};
     const Primaries own{0.69f, 0.31f, 0.21f, 0.71f, 0.14f, 0.05f};
 
-    auto srgb = writes("sRGB", 504, rgb(0, 0, 0, 0, none, 2, 0, 0));
+    auto srgb = profile("sRGB", 504, rgb(0, 0, 0, 0, none, 2, 0, 0), {2, 0, 2, 0});
     expect(text(srgb) == "sRGB", "the text of sRGB");
     expect(word(srgb, 0) == 504, "the size field of sRGB");
     save(folder, "srgb", srgb);
-    save(folder, "srgb-relative", writes("sRGB Relative", 536, rgb(0, 0, 0, 0, none, 2, 0, 1)));
-    save(folder, "gray", writes("gray", 328, gray(0, 0, 0, 2, 0, 1)));
-    save(folder, "xyb", writes("XYB", 720, xyb(0)));
-    writes("RGB white (0, 1)", 544, rgb(3, 0, 1, 0, none, 2, 0, 0));
+    save(folder, "srgb-relative", profile("sRGB Relative", 536, rgb(0, 0, 0, 0, none, 2, 0, 1), {2, 1, 2, 0}));
+    auto gray_d65 = profile("gray", 328, gray(0, 0, 0, 2, 0, 1), {1, 1, 2, 0});
+    save(folder, "gray", gray_d65);
+    auto xyb_only = profile("XYB", 720, xyb(0), {3, 0, 0, 0});
+    save(folder, "xyb", xyb_only);
+    profile("RGB white (0, 1)", 544, rgb(3, 0, 1, 0, none, 2, 0, 0), {2, 0, 2, 0});
     auto infinite = rgb(0, 0, 0, 0, none, 6, infinity, 0);
     uint8_t buffer[1200];
     uint32_t length = infinite(buffer, sizeof buffer);
-    auto endless = writes("infinite gamma", length, infinite);
+    auto endless = profile("infinite gamma", length, infinite, {2, 0, 6, infinity});
     std::string name = text(endless);
     expect(name.size() > 4 && name.substr(name.size() - 4) == "ginf", "the text of an infinite gamma");
     expect(word(element(endless, "rTRC"), 12) == 0, "the number of an infinite gamma");
     auto with_own = rgb(0, 0, 0, 3, own, 6, 0.45f, 1);
-    save(folder, "own", writes("own primaries", with_own(buffer, sizeof buffer), with_own));
+    save(folder, "own", profile("own primaries", with_own(buffer, sizeof buffer), with_own, {2, 1, 6, 0.45f}));
+    auto negative = gray(1, 0, 0, 6, -2.5f, 3);
+    profile("gray with a gamma below zero", negative(buffer, sizeof buffer), negative, {1, 3, 6, -2.5f});
+    // The other named curves, and the other pairs that have `cicp`.
+    for (uint32_t curve : {0u, 1u, 4u})
+        for (uint32_t primaries : {1u, 2u}) {
+            auto named = rgb(0, 0, 0, primaries, none, curve, 0, 2);
+            profile("a named curve", named(buffer, sizeof buffer), named, {2, 2, curve, 0});
+        }
 
     refuses("PQ", 1, rgb(0, 0, 0, 1, none, 3, 0, 1));
     refuses("HLG gray", 1, gray(0, 0, 0, 5, 0, 1));
@@ -293,6 +469,7 @@ int main(int argc, char **argv) {
     refuses("XYB intent 4", 43, xyb(4));
     refuses("intent 2^32 - 1", 43, xyb(0xffffffffu));
 
+    bad_files(srgb, gray_d65, xyb_only);
     good_jobs(srgb);
     bad_jobs();
 

@@ -190,6 +190,34 @@ uint32_t merqyduk_job(const uint8_t *job, size_t job_len, uint32_t *entries);
  * this one. */
 uint32_t merqyduk_job_profile(const uint8_t *job, size_t job_len, size_t i, uint8_t *out, size_t out_len);
 
+/* ---- files: a profile read, and its elements found. file may be null where file_len is 0. What a call writes to may not
+ * overlap the file. */
+
+/* A plan: all that a profile of the library says. Fixed numbers are 65536ths. A member that a kind does not use is 0. */
+struct merqyduk_plan {
+    uint32_t kind;       /* 1 gray, 2 RGB, 3 XYB, which uses no other member */
+    uint32_t intent;     /* MERQYDUK_INTENT_... */
+    uint32_t curve;      /* MERQYDUK_CURVE_... */
+    int32_t gamma;       /* the fixed number of 1/gamma; 0 for a named curve */
+    uint32_t cicp;       /* RGB: the ColourPrimaries value of the cicp tag; 0 where there is none */
+    int32_t white_x;     /* gray: X and Z of the white; its Y is 65536 */
+    int32_t white_z;
+    int32_t chad[9];     /* RGB: the chromatic adaptation, by rows */
+    int32_t columns[9];  /* RGB: the red, the green and the blue column */
+    uint32_t letters;    /* the letters of the text, at most 372 */
+    uint8_t text[372];   /* ASCII, not NUL-terminated; 0 after the last letter */
+};
+
+/* Reads the file into a struct merqyduk_plan: merqyduk_read(file, file_len, &plan, sizeof plan). Answers 0, and the plan is
+ * the one whose profile has exactly these bytes; where more is lent than the struct, the rest is unchanged. Or it answers 21
+ * to 28, or 9 where less is lent than the struct, tested in this order, and all that is lent is unchanged. */
+uint32_t merqyduk_read(const uint8_t *file, size_t file_len, void *plan, size_t plan_len);
+
+/* Answers the size of the element of a tag and sets *offset to its place in the file. signature is the four bytes of the
+ * tag's name as one number, the first byte the most significant: 0x64657363 is desc. Or it answers 0, where merqyduk_read
+ * refuses the file or the file has no such tag, and *offset is unchanged. */
+uint32_t merqyduk_find(const uint8_t *file, size_t file_len, uint32_t signature, uint32_t *offset);
+
 #ifdef __cplusplus
 }
 #endif
