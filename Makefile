@@ -31,10 +31,10 @@ all: $(library)
 $(library): $(sources)
 	@command -v $(RT) >/dev/null || { echo 'make: $(RT) is not installed; it proves and compiles the library' >&2; exit 1; }
 	@mkdir -p build
-	@echo 'proving and compiling the library; build/staticlib.log takes what the prover says of it'
+	@echo 'proving and compiling the library; build/staticlib.log takes what rt says' >&2
 	@rm -f target/staticlib/libhost.a
-	@$(RT) staticlib host 2>&1 >build/staticlib.log | grep --line-buffered -v 'unchanged since' >&2 || :
-	@[ -f target/staticlib/libhost.a ] || { grep -v '^library ' build/staticlib.log | cut -c 1-300 | tail -n 20 >&2; echo 'make: the library was not built' >&2; exit 1; }
+	@$(RT) staticlib host 2>&1 | tee build/staticlib.log | awk '/^rt: / && !/unchanged since/ { print; fflush() }' >&2
+	@[ -f target/staticlib/libhost.a ] || { grep -E 'error|not proved' build/staticlib.log | cut -c 1-300 | head -n 20 >&2; echo 'make: the library was not built; build/staticlib.log has what rt says' >&2; exit 1; }
 	cp target/staticlib/libhost.a $@
 
 install: $(library)

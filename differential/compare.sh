@@ -88,12 +88,13 @@ else
     rm -f "$out/port.sum"
     for library in leaves host; do
         echo "compare.sh: building lib$library.a; $out/port.log has what rt says" >&2
-        # rt says on standard error which crate is proved; those that were proved before are left out.
+        # Of what rt says, only which crate was proved just now.
         rm -f "$out/port.built"
-        { cd "$out/port" && rt staticlib "$library" 2>&1 >"$out/port.log" && : >"$out/port.built"; } | grep --line-buffered -v 'unchanged since' >&2 || :
+        { cd "$out/port" && rt staticlib "$library" 2>&1 && : >"$out/port.built"; } | tee "$out/port.log" |
+            awk '/^rt: / && !/unchanged since/ { print; fflush() }' >&2
         [ -f "$out/port.built" ] || {
-            grep -v '^library ' "$out/port.log" | cut -c 1-300 | tail -n 20 >&2
-            echo "compare.sh: lib$library.a was not built" >&2
+            grep -E 'error|not proved' "$out/port.log" | cut -c 1-300 | head -n 20 >&2
+            echo "compare.sh: lib$library.a was not built; $out/port.log has what rt says" >&2
             exit 1
         }
     done

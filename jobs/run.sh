@@ -37,6 +37,7 @@ if [ -n "${BIN:-}" ]; then
 fi
 
 mkdir -p "$out" || fail "there is no folder for what is written: $out"
+out=$(cd "$out" && pwd)
 python3 "$here/make_job.py" "$text" >"$out/job" || fail "$text is not the text of a job"
 rm -f "$out"/[123]-*.icc
 
@@ -44,11 +45,11 @@ if [ -z "${BIN:-}" ]; then
     BIN=$top/target/bin
     command -v rt >/dev/null || fail "rt is not installed: it builds listing and profiles (BIN names the folder of built ones)"
     echo "Building listing and profiles (what they stand on is proved first: minutes, where nothing is proved yet) ..." >&2
-    # rt says on standard error which crate is proved; those that were proved before are left out.
+    # Of what rt says, only which crate was proved just now.
     rm -f "$out/built"
-    { cd "$top" && rt check listing profiles 2>&1 >"$out/build.log" && : >"$out/built"; } | grep --line-buffered -v 'unchanged since' >&2 || :
+    { cd "$top" && rt check listing profiles 2>&1 && : >"$out/built"; } | tee "$out/build.log" | awk '/^rt: / && !/unchanged since/ { print; fflush() }' >&2
     [ -f "$out/built" ] || {
-        grep -v '^library ' "$out/build.log" | cut -c 1-300 | tail -n 20 >&2
+        grep -E 'error|not proved' "$out/build.log" | cut -c 1-300 | head -n 20 >&2
         fail "listing and profiles were not built; $out/build.log has what rt says"
     }
 fi
