@@ -34,11 +34,11 @@ head -c 200 "$out/srgb.icc" >"$out/cut.icc"
 
 # ---- which programs there are
 
-# Sets the variable to the program's version, or leaves it empty and says what to install.
 missing() { # WHAT PACKAGE
     echo "skipped: $1, install $2"
 }
-lcms= transicc= exiftool= gs= convert= magick=
+# The version of each, empty where it is not installed; convert is the name of ImageMagick's program.
+lcms='' transicc='' exiftool='' gs='' magick='' convert=''
 if printf '#include <lcms2.h>\n' | cc -fsyntax-only -x c - 2>/dev/null; then
     cc -std=gnu11 -O2 -Wall -Wextra "$here/lcms.c" -llcms2 -lm -o "$out/lcms"
     lcms=$("$out/lcms" version)
