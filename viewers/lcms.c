@@ -1,14 +1,18 @@
-/* What lcms2 makes of profiles, for run.sh. Each line starts with a word and has fields with tabs between.
+/* What lcms2 makes of profiles, for run.sh. A line starts with a word and has fields with tabs between.
  *
- *    lcms tags PROFILE    the tags, and which of them lcms2 does not read
+ *    lcms tags PROFILE    the number of tags, and which of them lcms2 does not read
  *    lcms white PROFILE   the white of the device in the PCS, relative and absolute, and in lcms2's own sRGB with eight bits
- *    lcms srgb PROFILE    a grid of colors through the profile and through lcms2's own sRGB, and the largest differences
+ *    lcms like PROFILE WX WY [RX RY GX GY BX BY] CURVE
+ *                         the largest difference in Lab, on a grid of colors, to a profile that lcms2 makes itself from these; CURVE is srgb,
+ *                         bt709 or the exponent that decodes; no primaries for gray
+ *    lcms srgb PROFILE    the same to lcms2's own sRGB, and how many colors of the grid change with eight bits, from the profile and to it
  *
- * Fails where lcms2 refuses the profile, where the white is not (0.9642, 1, 0.8249) or (255, 255, 255) within 0.0005 and 1, and where the
- * differences of `srgb` are more than rounding: 1 of 255, and 0.1 in Lab. */
+ * Fails where lcms2 refuses the profile, where the white is not (0.9642, 1, 0.8249) or (255, 255, 255) within 0.0005 and 1, and where
+ * differences are more than rounding: 0.1 in Lab, and 1 of 255. */
 #include <lcms2.h>
 #include <math.h>
 #include <stdio.h>
+#include <stdlib.h>
 #include <string.h>
 
 static void say(cmsContext context, cmsUInt32Number code, const char *text) {
@@ -70,61 +74,111 @@ static int white(cmsHPROFILE profile) {
     return failed;
 }
 
-/* Every color with numbers 0, 5, ... 255. */
+/* Colors of the device with the numbers 0, step, ... 255; a gray one has the first alone. */
+struct grid {
+    int step, at[3];
+};
+
+static int next(struct grid *grid, int gray) {
+    for (int i = 0; i < (gray ? 1 : 3); i++) {
+        grid->at[i] += grid->step;
+        if (grid->at[i] <= 255) return 1;
+        grid->at[i] = 0;
+    }
+    return 0;
+}
+
+/* The largest difference in Lab between two profiles of the same device space. */
+static double largest_difference(cmsHPROFILE ours, cmsHPROFILE theirs, int step) {
+    const int gray = cmsGetColorSpace(ours) == cmsSigGrayData;
+    const cmsUInt32Number from = gray ? TYPE_GRAY_DBL : TYPE_RGB_DBL, flags = cmsFLAGS_NOCACHE | cmsFLAGS_NOOPTIMIZE;
+    cmsHPROFILE lab = cmsCreateLab4Profile(NULL);
+    cmsHTRANSFORM a = cmsCreateTransform(ours, from, lab, TYPE_Lab_DBL, INTENT_RELATIVE_COLORIMETRIC, flags);
+    cmsHTRANSFORM b = cmsCreateTransform(theirs, from, lab, TYPE_Lab_DBL, INTENT_RELATIVE_COLORIMETRIC, flags);
+    if (!a || !b) return INFINITY;
+    double most = 0;
+    struct grid grid = {step, {0, 0, 0}};
+    do {
+        double in[3] = {grid.at[0] / 255.0, grid.at[1] / 255.0, grid.at[2] / 255.0};
+        cmsCIELab x, y;
+        cmsDoTransform(a, in, &x, 1);
+        cmsDoTransform(b, in, &y, 1);
+        most = fmax(most, cmsDeltaE(&x, &y));
+    } while (next(&grid, gray));
+    return most;
+}
+
+static cmsToneCurve *curve_of(const char *word) {
+    const double srgb[] = {2.4, 1 / 1.055, 0.055 / 1.055, 1 / 12.92, 0.04045};
+    const double bt709[] = {1 / 0.45, 1 / 1.099, 0.099 / 1.099, 1 / 4.5, 0.081};
+    if (strcmp(word, "srgb") == 0) return cmsBuildParametricToneCurve(NULL, 4, srgb);
+    if (strcmp(word, "bt709") == 0) return cmsBuildParametricToneCurve(NULL, 4, bt709);
+    return cmsBuildGamma(NULL, atof(word));
+}
+
+static int like(cmsHPROFILE profile, char **words) {
+    const cmsCIExyY white = {atof(words[0]), atof(words[1]), 1};
+    cmsHPROFILE theirs;
+    if (cmsGetColorSpace(profile) == cmsSigGrayData) {
+        theirs = cmsCreateGrayProfile(&white, curve_of(words[2]));
+    } else {
+        const cmsCIExyYTRIPLE primaries = {{atof(words[2]), atof(words[3]), 1},
+                                           {atof(words[4]), atof(words[5]), 1},
+                                           {atof(words[6]), atof(words[7]), 1}};
+        cmsToneCurve *curve = curve_of(words[8]);
+        cmsToneCurve *three[] = {curve, curve, curve};
+        theirs = cmsCreateRGBProfile(&white, &primaries, three);
+    }
+    if (!theirs) return 1;
+    const double most = largest_difference(profile, theirs, 15);
+    printf("like\t%.4f\n", most);
+    return !(most <= 0.1);
+}
+
 static int srgb(cmsHPROFILE profile) {
-    cmsHPROFILE theirs = cmsCreate_sRGBProfile(), lab = cmsCreateLab4Profile(NULL);
-    const cmsUInt32Number flags = cmsFLAGS_NOCACHE | cmsFLAGS_NOOPTIMIZE;
-    cmsHTRANSFORM a = cmsCreateTransform(profile, TYPE_RGB_DBL, lab, TYPE_Lab_DBL, INTENT_RELATIVE_COLORIMETRIC, flags);
-    cmsHTRANSFORM b = cmsCreateTransform(theirs, TYPE_RGB_DBL, lab, TYPE_Lab_DBL, INTENT_RELATIVE_COLORIMETRIC, flags);
-    cmsHTRANSFORM to = cmsCreateTransform(profile, TYPE_RGB_8, theirs, TYPE_RGB_8, INTENT_RELATIVE_COLORIMETRIC, cmsFLAGS_NOCACHE);
-    cmsHTRANSFORM back = cmsCreateTransform(theirs, TYPE_RGB_8, profile, TYPE_RGB_8, INTENT_RELATIVE_COLORIMETRIC, cmsFLAGS_NOCACHE);
-    if (!a || !b || !to || !back) return 1;
-    double most_lab = 0;
-    int most[2] = {0, 0}, colors = 0, changed[2] = {0, 0};
-    for (int r = 0; r <= 255; r += 5)
-        for (int g = 0; g <= 255; g += 5)
-            for (int bl = 0; bl <= 255; bl += 5) {
-                double in[3] = {r / 255.0, g / 255.0, bl / 255.0};
-                cmsCIELab x, y;
-                cmsDoTransform(a, in, &x, 1);
-                cmsDoTransform(b, in, &y, 1);
-                double e = cmsDeltaE(&x, &y);
-                if (e > most_lab) most_lab = e;
-                cmsUInt8Number from[3] = {(cmsUInt8Number)r, (cmsUInt8Number)g, (cmsUInt8Number)bl}, got[3];
-                for (int way = 0; way < 2; way++) {
-                    int worst = 0;
-                    cmsDoTransform(way ? back : to, from, got, 1);
-                    for (int i = 0; i < 3; i++) {
-                        int d = got[i] > from[i] ? got[i] - from[i] : from[i] - got[i];
-                        if (d > worst) worst = d;
-                    }
-                    if (worst > most[way]) most[way] = worst;
-                    changed[way] += worst > 0;
-                }
-                colors++;
-            }
-    printf("srgb\t%d\t%.4f\t%d\t%d\t%d\t%d\n", colors, most_lab, most[0], changed[0], most[1], changed[1]);
-    return most_lab > 0.1 || most[0] > 1 || most[1] > 1;
+    cmsHPROFILE theirs = cmsCreate_sRGBProfile();
+    cmsHTRANSFORM ways[] = {
+        cmsCreateTransform(profile, TYPE_RGB_8, theirs, TYPE_RGB_8, INTENT_RELATIVE_COLORIMETRIC, cmsFLAGS_NOCACHE),
+        cmsCreateTransform(theirs, TYPE_RGB_8, profile, TYPE_RGB_8, INTENT_RELATIVE_COLORIMETRIC, cmsFLAGS_NOCACHE)};
+    if (!ways[0] || !ways[1]) return 1;
+    const double most = largest_difference(profile, theirs, 5);
+    int colors = 0, changed[2] = {0, 0}, by[2] = {0, 0};
+    struct grid grid = {5, {0, 0, 0}};
+    do {
+        cmsUInt8Number from[3], to[3];
+        for (int i = 0; i < 3; i++) from[i] = (cmsUInt8Number)grid.at[i];
+        for (int way = 0; way < 2; way++) {
+            int worst = 0;
+            cmsDoTransform(ways[way], from, to, 1);
+            for (int i = 0; i < 3; i++)
+                if (abs(to[i] - from[i]) > worst) worst = abs(to[i] - from[i]);
+            changed[way] += worst > 0;
+            if (worst > by[way]) by[way] = worst;
+        }
+        colors++;
+    } while (next(&grid, 0));
+    printf("srgb\t%d\t%.4f\t%d\t%d\t%d\t%d\n", colors, most, changed[0], by[0], changed[1], by[1]);
+    return !(most <= 0.1) || by[0] > 1 || by[1] > 1;
 }
 
 int main(int argc, char **argv) {
-    static const struct {
-        const char *word;
-        int (*look)(cmsHPROFILE);
-    } words[] = {{"tags", tags}, {"white", white}, {"srgb", srgb}};
     if (argc == 2 && strcmp(argv[1], "version") == 0) {
         printf("%d.%d\n", cmsGetEncodedCMMversion() / 1000, cmsGetEncodedCMMversion() % 1000 / 10);
         return 0;
     }
-    for (size_t i = 0; argc == 3 && i < sizeof words / sizeof words[0]; i++) {
-        if (strcmp(argv[1], words[i].word) != 0) continue;
-        cmsSetLogErrorHandler(say);
-        cmsHPROFILE profile = cmsOpenProfileFromFile(argv[2], "r");
-        if (!profile) return 1;
-        int failed = words[i].look(profile);
-        cmsCloseProfile(profile);
-        return failed;
+    const char *word = argc > 2 ? argv[1] : "";
+    int (*look)(cmsHPROFILE) = strcmp(word, "tags") == 0 ? tags : strcmp(word, "white") == 0 ? white : strcmp(word, "srgb") == 0 ? srgb : NULL;
+    const int compare = strcmp(word, "like") == 0 && (argc == 6 || argc == 12);
+    if (!compare && !(look && argc == 3)) {
+        fprintf(stderr, "lcms version, lcms tags|white|srgb PROFILE, or lcms like PROFILE WX WY [RX RY GX GY BX BY] CURVE\n");
+        return 2;
     }
-    fprintf(stderr, "lcms version, or lcms tags|white|srgb PROFILE\n");
-    return 2;
+    cmsSetLogErrorHandler(say);
+    cmsHPROFILE profile = cmsOpenProfileFromFile(argv[2], "r");
+    if (!profile) return 1;
+    if (compare && (cmsGetColorSpace(profile) == cmsSigGrayData) != (argc == 6)) {
+        fprintf(stderr, "primaries are for RGB\n");
+        return 2;
+    }
+    return compare ? like(profile, argv + 3) : look(profile);
 }

@@ -77,11 +77,18 @@ is_white() { # LEAST R G B
     [ $# -eq 4 ] && [ "$2" -ge "$1" ] && [ "$3" -ge "$1" ] && [ "$4" -ge "$1" ]
 }
 
-by_lcms() { # PROFILE KIND
+by_lcms() { # PROFILE KIND MEANING
     "$out/lcms" tags "$1" >"$out/got" 2>"$out/said" || return 1
     unread=$(cut -f 3 "$out/got")
     "$out/lcms" white "$1" >"$out/got" 2>"$out/said" || return 1
-    echo "${unread:-none} | $(cut -f 2 "$out/got") | $(cut -f 3 "$out/got")"
+    cells="${unread:-none} | $(cut -f 2 "$out/got") | $(cut -f 3 "$out/got")"
+    if [ -n "$3" ]; then
+        # The meaning is several words.
+        "$out/lcms" like "$1" $3 >"$out/got" 2>"$out/said" || return 1
+        echo "$cells | $(cut -f 2 "$out/got")"
+    else
+        echo "$cells | -"
+    fi
 }
 by_transicc() {
     white "$2" | awk '{ for (i = 1; i <= NF; i++) printf "%.4f ", 255 * $i; print "" }' | transicc -i "$1" -o '*sRGB' -t 1 >"$out/got" 2>"$out/said"
@@ -138,7 +145,7 @@ programs=
 
 for program in $programs; do
     : >"$out/said"
-    if "by_$program" "$out/cut.icc" RGB >"$out/got" 2>&1; then
+    if "by_$program" "$out/cut.icc" RGB '' >"$out/got" 2>&1; then
         fail "$program finds no fault with a profile that is cut"
     fi
 done
@@ -148,7 +155,7 @@ echo "a profile cut to 200 bytes: refused by$programs"
     head='| profile | kind | bytes |' line='|---|---|---|'
     for program in $programs; do
         case $program in
-        lcms) head="$head lcms2 $lcms: tags not read | white, relative | white, absolute |" line="$line---|---|---|" ;;
+        lcms) head="$head lcms2 $lcms: tags not read | white, relative | white, absolute | difference to its own |" line="$line---|---|---|---|" ;;
         transicc) head="$head transicc, linkicc $transicc |" line="$line---|" ;;
         exiftool) head="$head exiftool $exiftool |" line="$line---|" ;;
         gs) head="$head Ghostscript $gs |" line="$line---|" ;;
@@ -160,11 +167,11 @@ echo "a profile cut to 200 bytes: refused by$programs"
 
 tab=$(printf '\t')
 count=0
-while IFS=$tab read -r name kind; do
+while IFS=$tab read -r name kind meaning; do
     row="| \`$name\` | $kind | $(($(wc -c <"$out/$name.icc"))) |"
     for program in $programs; do
         : >"$out/said"
-        cell=$("by_$program" "$out/$name.icc" "$kind") || {
+        cell=$("by_$program" "$out/$name.icc" "$kind" "$meaning") || {
             cat "$out/said" >&2
             fail "$program does not take $name.icc (above: what it said, if anything), or has another white"
         }
@@ -181,5 +188,5 @@ if [ -n "$lcms" ]; then
         cat "$out/got" "$out/said" >&2
         fail "our sRGB differs from lcms2's own by more than rounding"
     }
-    awk -F '\t' '{ printf "our sRGB beside the own one of lcms2, %d colors: at most %s in Lab; changed with eight bits: %d of ours (at most by %d), %d of theirs (at most by %d)\n", $2, $3, $5, $4, $7, $6 }' "$out/got"
+    awk -F '\t' '{ printf "our sRGB beside the own one of lcms2, %d colors: at most %s in Lab; changed with eight bits: %d of ours (at most by %d), %d of theirs (at most by %d)\n", $2, $3, $4, $5, $6, $7 }' "$out/got"
 fi
