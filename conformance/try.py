@@ -14,10 +14,13 @@ import hashlib
 import pathlib
 import subprocess
 import sys
+import tempfile
+import threading
 
 LIST = pathlib.Path(__file__).with_name("encodings.txt")
-# Seconds for the whole list.
+# Seconds for the whole list, and characters of a line: no profile has more than 1,200 bytes.
 LIMIT = 600
+LONGEST = 8192
 
 
 class Case:
@@ -96,22 +99,30 @@ def cases(path):
 
 
 def answers(program, listed):
-    """The lines that the program prints, and whether it ended well."""
-    text = "".join(case.encoding + "\n" for case in listed)
-    done = subprocess.run(program, input=text.encode(), stdout=subprocess.PIPE, timeout=LIMIT)
-    if done.returncode != 0:
-        print(f"the program ended with status {done.returncode}")
-    lines = done.stdout.decode("ascii", "replace").split("\n")
-    if lines[-1] == "":
-        lines.pop()
-    return lines, done.returncode == 0
+    """The lines that the program prints, at most one more than are expected, and whether it ended well."""
+    with tempfile.TemporaryFile() as encodings:
+        encodings.write("".join(case.encoding + "\n" for case in listed).encode())
+        encodings.seek(0)
+        running = subprocess.Popen(program, stdin=encodings, stdout=subprocess.PIPE)
+    clock = threading.Timer(LIMIT, running.kill)
+    clock.start()
+    lines = []
+    while len(lines) <= len(listed) and (line := running.stdout.readline(LONGEST)):
+        lines.append(line.decode("ascii", "replace").rstrip("\r\n"))
+    if len(lines) > len(listed):
+        running.kill()
+    status = running.wait()
+    clock.cancel()
+    if status != 0:
+        print(f"the program ended with status {status}")
+    return lines, status == 0
 
 
 def compare(listed, found, most):
     """Shows the first differences; answers how many lines differ, and the tally of each group."""
     wrong, groups = 0, {}
     for index, case in enumerate(listed):
-        line = found[index].rstrip("\r") if index < len(found) else ""
+        line = found[index] if index < len(found) else ""
         difference = case.difference(line)
         good, all_ = groups.get(case.group, (0, 0))
         groups[case.group] = (good + (difference is None), all_ + 1)
@@ -134,7 +145,7 @@ def main():
     try:
         listed = list(cases(chosen.list))
         found, ended = answers(chosen.program, listed)
-    except (OSError, ValueError, subprocess.TimeoutExpired) as why:
+    except (OSError, ValueError) as why:
         print(f"try.py: {why}", file=sys.stderr)
         return 2
     if not listed:
@@ -142,7 +153,8 @@ def main():
         return 2
     wrong, groups = compare(listed, found, chosen.most)
     if len(found) != len(listed):
-        print(f"{len(found)} lines printed, {len(listed)} expected")
+        some = f"{len(found)} lines" if len(found) < len(listed) else "more lines"
+        print(f"{some} printed, {len(listed)} expected")
     for name, (good, all_) in groups.items():
         print(f"{name}: {good} of {all_}")
     print(f"{len(listed) - wrong} of {len(listed)}")

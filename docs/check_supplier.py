@@ -1,11 +1,11 @@
 #!/usr/bin/env python3
-"""Checks SUPPLIER.md: its constants, and the right numbers of its tables.
+"""Checks SUPPLIER.md: its constants, the right numbers of its tables, and those of XYB.
 
   docs/check_supplier.py [SRC]
 
 Each constant is worked out exactly from the decimal that the Rust has and rounded to its width, and held against the bits in the table; the bits
 must stand in the file of the definition. With SRC, the folder of the Rust's sources, each decimal must stand there too. Each right number of a case must be
-in the case's profile in conformance/encodings.txt. The status is 1 if something differs.
+in the case's profile in conformance/encodings.txt, and the numbers of XYB in its profile there. The status is 1 if something differs.
 """
 
 import pathlib
@@ -137,9 +137,36 @@ def check_cases():
     print(f"{count} numbers of {len(answers)} cases")
 
 
+def xyb_numbers(profile):
+    """The numbers of an XYB profile by the names of their table."""
+    number = lambda at, size, signed: int.from_bytes(profile[at:at + size], "big", signed=signed)
+    lines = range(132, 132 + 12 * number(128, 4, False), 12)
+    offsets = {profile[at:at + 4].decode(): number(at + 4, 4, False) for at in lines}
+    a2b0 = offsets["A2B0"]
+    words = lambda at, count: [number(at + 4 * i, 4, True) for i in range(count)]
+    return {
+        "CLUT": [number(a2b0 + 100 + 2 * i, 2, False) for i in range(24)],
+        "M curves": sum((words(a2b0 + 160 + 32 * i, 5) for i in range(3)), []),
+        "matrix": words(a2b0 + 244, 12),
+        "`chad`": words(offsets["chad"] + 8, 9),
+    }
+
+
+def check_xyb():
+    lines = (TOP / "conformance" / "encodings.txt").read_text().split("\n")
+    answer = next(line.split(" bytes ")[1] for line in lines if line.startswith("1200 3 ") and " = 720 bytes " in line)
+    count = 0
+    for element, numbers in rows(["element", "numbers"]):
+        count += 1
+        found = xyb_numbers(bytes.fromhex(answer))[element]
+        if [int(number) for number in re.split("[,;] ", numbers)] != found:
+            yield f"XYB, {element}: {found}"
+    print(f"{count} elements of XYB")
+
+
 def main():
     source = pathlib.Path(sys.argv[1]) if len(sys.argv) > 1 else None
-    wrong = list(check_constants(source)) + list(check_cases())
+    wrong = list(check_constants(source)) + list(check_cases()) + list(check_xyb())
     for line in wrong:
         print(line)
     return 1 if wrong else 0
