@@ -1,6 +1,6 @@
 #!/bin/sh
-# Tries this repository's library on the conformance list, and the Rust itself where differential/build.sh has built it. Then shows that try.py notices
-# mistakes: each of three programs that answer one thing wrong must be told so.
+# Tries this repository's library and example.py on the conformance list, and the Rust itself where differential/build.sh has built it. Then shows that
+# try.py notices mistakes: each of three programs that answer one thing wrong must be told so.
 #
 #   conformance/test.sh [OUT]
 set -eu
@@ -15,6 +15,9 @@ mkdir -p "$out"
 cc -std=c99 -O2 -Wall -Wextra -pedantic -I"$top/include" "$here/merqyduk.c" "$top/target/staticlib/libhost.a" -o "$out/merqyduk"
 echo "the library:"
 python3 "$here/try.py" "$out/merqyduk"
+
+echo "example.py:"
+python3 "$here/try.py" python3 "$here/example.py" | tail -n 1
 
 if [ -x "$judge" ]; then
     echo "the Rust:"

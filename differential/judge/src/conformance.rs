@@ -332,7 +332,7 @@ fn shown_by_primaries() -> Vec<Encoding> {
 /// Gray whites and gammas that print so that rounding, sign or length shows.
 fn texts() -> Vec<Encoding> {
     let mut floats: Vec<f32> = [1.0, 3.0, 5.0, 7.0].map(|n: f32| n / 256.0).into();
-    floats.extend([-0.0, -1e-9, 0.1, 0.999_999_97, 1.000_000_1, 9.999_999_5]);
+    floats.extend([-0.0, -1e-9, 0.1, 0.999_999_97, 1.000_000_1, 9.999_999]);
     floats.extend([8_388_607.5, 16_777_216.0, 1e10, 3.402_823_5e38, -1.2e38]);
     floats.extend([f32::INFINITY, f32::NEG_INFINITY, f32::NAN]);
     let mut all = Vec::new();
