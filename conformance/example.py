@@ -1,5 +1,5 @@
 #!/usr/bin/env python3
-"""The writer once more, from docs/SCOPE.md and docs/SUPPLIER.md alone: an example of a program that try.py tries.
+"""The writer once more, by what docs/SCOPE.md and docs/SUPPLIER.md say: an example of a program that try.py tries.
 
   conformance/try.py python3 conformance/example.py
 

@@ -13,15 +13,18 @@ mkdir -p "$out"
 
 (cd "$top" && rt staticlib host) >"$out/staticlib.log" 2>&1 || { tail -n 20 "$out/staticlib.log"; exit 1; }
 cc -std=c99 -O2 -Wall -Wextra -pedantic -I"$top/include" "$here/merqyduk.c" "$top/target/staticlib/libhost.a" -o "$out/merqyduk"
-echo "the library:"
-python3 "$here/try.py" "$out/merqyduk"
 
-echo "example.py:"
-python3 "$here/try.py" python3 "$here/example.py" | tail -n 1
-
+# Tries a program; shows the last line, or all where an answer is wrong.
+right() {
+    what=$1
+    shift
+    python3 "$here/try.py" "$@" >"$out/right.log" || { cat "$out/right.log"; echo "$what is wrong"; exit 1; }
+    echo "$what: $(tail -n 1 "$out/right.log")"
+}
+right "the library" "$out/merqyduk"
+right "example.py" python3 "$here/example.py"
 if [ -x "$judge" ]; then
-    echo "the Rust:"
-    python3 "$here/try.py" "$judge" answer | tail -n 1
+    right "the Rust" "$judge" answer
     # The list that is kept is the one that the Rust gives.
     "$judge" conformance 1 | cmp - "$here/encodings.txt"
 fi
