@@ -14,6 +14,10 @@ struct arguments {
     const uint8_t *job;
     size_t job_len, i;
     uint8_t out[MERQYDUK_MAX_PROFILE];
+    /* The last profile that was written, which is read, and its plan. */
+    uint8_t file[MERQYDUK_MAX_PROFILE];
+    size_t file_len;
+    struct merqyduk_plan plan;
 };
 
 typedef void call(struct arguments *a);
@@ -39,6 +43,13 @@ static void job(struct arguments *a) {
 
 static void job_profile(struct arguments *a) {
     merqyduk_job_profile(a->job, a->job_len, a->i, a->out, sizeof a->out);
+}
+
+static void read_plan(struct arguments *a) { merqyduk_read(a->file, a->file_len, &a->plan, sizeof a->plan); }
+
+static void find(struct arguments *a) {
+    uint32_t offset;
+    merqyduk_find(a->file, a->file_len, 0x64657363, &offset); /* desc */
 }
 
 /* The bytes below this function's own stack that the call has changed. */
@@ -97,11 +108,13 @@ int main(void) {
         const char *name;
         call *make;
     } calls[] = {{"nothing", nothing},         {"merqyduk_write_gray", gray}, {"merqyduk_write_rgb", rgb},
-                 {"merqyduk_write_xyb", xyb}, {"merqyduk_job", job},         {"merqyduk_job_profile", job_profile}};
+                 {"merqyduk_write_xyb", xyb}, {"merqyduk_job", job},         {"merqyduk_job_profile", job_profile},
+                 {"merqyduk_read", read_plan}, {"merqyduk_find", find}};
     enum { CALLS = sizeof calls / sizeof calls[0], ENCODINGS = 10000 };
     size_t most[CALLS] = {0};
     static struct arguments a;
     uint8_t bytes[59];
+    int accepted = 0;
     a.job = bytes;
     a.job_len = sizeof bytes;
     for (int n = 0; n < ENCODINGS; n++) {
@@ -112,12 +125,19 @@ int main(void) {
         for (int i = 0; i < 9; i++) a.floats[i] = random_float();
         a.i = random_bits() % 4;
         fill_job(&a, bytes);
+        uint32_t length = merqyduk_job_profile(bytes, sizeof bytes, a.i, a.out, sizeof a.out);
+        if (length >= MERQYDUK_MIN_PROFILE) {
+            memcpy(a.file, a.out, length);
+            a.file_len = length;
+            if (merqyduk_read(a.file, length, &a.plan, sizeof a.plan) == 0) accepted++;
+        }
         for (int i = 0; i < CALLS; i++) {
             size_t d = depth(calls[i].make, &a);
             if (d > most[i]) most[i] = d;
         }
     }
     int failed = 0;
+    printf("stack: %d of the encodings led to a profile that was read\n", accepted);
     for (int i = 0; i < CALLS; i++) {
         printf("stack: %-21s %5zu bytes at most over %d encodings\n", calls[i].name, most[i], ENCODINGS);
         if (most[i] > MERQYDUK_STACK) failed = 1;

@@ -106,6 +106,23 @@ void jobs() {
     expect(cut.profile(0).answer().refusal() == MERQYDUK_REFUSED_JOB_EARLY, "an entry of a cut job");
 }
 
+void files() {
+    const Profile profile = write(Encoding::gray(White::own(0.25f, 0.5f), Curve::display_gamma(2), Intent::saturation));
+    const Reading reading = read(profile.data(), profile.size());
+    expect(reading && reading.refusal == 0, "a profile read");
+    expect(reading.plan.kind == 1 && reading.plan.intent == MERQYDUK_INTENT_SATURATION, "its kind and intent");
+    expect(reading.plan.curve == MERQYDUK_CURVE_GAMMA && reading.plan.gamma == 2 * 65536, "its curve");
+    expect(reading.plan.white_x == 32768 && reading.plan.white_z == 32768, "its white");
+    expect(reading.description() == "Gra_0.2500000;0.5000000_Sat_g0.5000000", "its description");
+    const Element curve = find(profile.data(), profile.size(), "kTRC");
+    expect(curve && curve.data == profile.end() - 16 && curve.size == 16, "its last element");
+    expect(!find(profile.data(), profile.size(), "chad"), "an absent tag");
+    const Reading cut = read(profile.data(), profile.size() - 1);
+    expect(!cut && cut.refusal == MERQYDUK_REFUSED_SIZE_FIELD && cut.plan.kind == 0, "a cut profile");
+    expect(cut.description().empty() && std::string(cut.text()) == merqyduk_refusal_text(22), "its text");
+    expect(!find(profile.data(), profile.size() - 1, "kTRC"), "an element of a cut profile");
+}
+
 // The refusals of 01 have texts of their own, and no other number has one.
 void texts() {
     const std::string other = merqyduk_refusal_text(0xffffffffu);
@@ -129,6 +146,7 @@ void texts() {
 int main() {
     encodings();
     jobs();
+    files();
     texts();
     std::printf("merqyduk.hpp: %d of %d\n", tried - failed, tried);
     return failed == 0 ? 0 : 1;

@@ -8,7 +8,7 @@
  * MERQYDUK_MAX_PROFILE, which then stands at the front of the output; the rest of the output is unchanged. Or
  * it answers a number below 100, and all of the output is unchanged: one of MERQYDUK_REFUSED_..., or 0 where
  * the job has no such entry. Refusals are tested in this order: 41, 42, 43; then 0; then 1 to 9. An output of
- * MERQYDUK_MAX_PROFILE bytes is enough for every profile.
+ * MERQYDUK_MAX_PROFILE bytes is enough for every profile. The calls that read a file say below what they answer.
  *
  * Id. A profile's id is its bytes 84 to 99, MERQYDUK_ID_SIZE bytes from MERQYDUK_ID_OFFSET on: MD5 of the
  * profile with bytes 44 to 47, 64 to 67 and 84 to 99 zero.
@@ -16,8 +16,8 @@
  * Gamma is the exponent that encodes, as jxl-rs has it: the curve in the profile decodes, and is x^(1/gamma).
  * For a display gamma of 2.2 pass 1/2.2f, which is about 0.45455.
  *
- * Pointers. out may be null where out_len is 0, and job where job_len is 0. What a call writes to may not
- * overlap the job.
+ * Pointers. A pointer to bytes may be null where their number is 0. What a call writes to may not overlap what
+ * it reads.
  *
  * Threads. Calls are reentrant: the library has no data that is written, no heap, no lock and no system call,
  * and calls nothing but memcpy and memset. Any number of threads may call at once, each with an output of its
@@ -190,8 +190,7 @@ uint32_t merqyduk_job(const uint8_t *job, size_t job_len, uint32_t *entries);
  * this one. */
 uint32_t merqyduk_job_profile(const uint8_t *job, size_t job_len, size_t i, uint8_t *out, size_t out_len);
 
-/* ---- files: a profile read, and its elements found. file may be null where file_len is 0. What a call writes to may not
- * overlap the file. */
+/* ---- files: a profile read, and its elements found. */
 
 /* A plan: all that a profile of the library says. Fixed numbers are 65536ths. A member that a kind does not use is 0. */
 struct merqyduk_plan {

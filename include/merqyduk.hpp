@@ -13,6 +13,7 @@
 #include <array>
 #include <cstddef>
 #include <cstdint>
+#include <string>
 #include <vector>
 
 namespace merqyduk {
@@ -212,6 +213,42 @@ class Job {
     std::uint32_t entries_;
     std::uint32_t refusal_;
 };
+
+// ---- reading
+
+// What a file says: its plan, or the refusal that stands in its place; then the plan is all zero.
+struct Reading {
+    std::uint32_t refusal;
+    merqyduk_plan plan;
+
+    explicit operator bool() const noexcept { return refusal == 0; }
+    // What the refusal means.
+    const char *text() const noexcept { return merqyduk_refusal_text(refusal); }
+    // The text in the profile; empty for XYB, whose plan holds none.
+    std::string description() const { return std::string(plan.text, plan.text + plan.letters); }
+};
+
+inline Reading read(const std::uint8_t *file, std::size_t file_len) noexcept {
+    Reading made = Reading();
+    made.refusal = merqyduk_read(file, file_len, &made.plan, sizeof made.plan);
+    return made;
+}
+
+// A part of the file that was asked; empty where the file is refused, and where it has no such tag.
+struct Element {
+    const std::uint8_t *data;
+    std::size_t size;
+
+    explicit operator bool() const noexcept { return size != 0; }
+};
+
+// The element of a tag by its four letters, as in find(file, file_len, "desc").
+inline Element find(const std::uint8_t *file, std::size_t file_len, const char (&tag)[5]) noexcept {
+    std::uint32_t signature = 0, offset = 0;
+    for (int i = 0; i < 4; i++) signature = signature << 8 | static_cast<unsigned char>(tag[i]);
+    const std::uint32_t size = merqyduk_find(file, file_len, signature, &offset);
+    return size == 0 ? Element{file, 0} : Element{file + offset, size};
+}
 
 } // namespace merqyduk
 
