@@ -8,7 +8,27 @@ use crate::inputs::encodings::SRGB;
 use crate::inputs::job_cases;
 use crate::jobs;
 use crate::leaves;
-use crate::list::{MESSAGES, hex};
+use crate::list::hex;
+
+/// RFC 1321's test messages and their digests, appendix A.5.
+pub const RFC_1321: [(&str, &str); 7] = [
+    ("", "d41d8cd98f00b204e9800998ecf8427e"),
+    ("a", "0cc175b9c0f1b6a831c399e269772661"),
+    ("abc", "900150983cd24fb0d6963f7d28e17f72"),
+    ("message digest", "f96b697d7cb7938d525a2f31aaf161d0"),
+    (
+        "abcdefghijklmnopqrstuvwxyz",
+        "c3fcd3d76192e4007dfb496cca67e13b",
+    ),
+    (
+        "ABCDEFGHIJKLMNOPQRSTUVWXYZabcdefghijklmnopqrstuvwxyz0123456789",
+        "d174ab98d277d9f5a5611c2c9f419d9f",
+    ),
+    (
+        "12345678901234567890123456789012345678901234567890123456789012345678901234567890",
+        "57edf4a22be3c955ac49da2e2107b67a",
+    ),
+];
 
 /// One number of the scope, and what the original gives.
 pub struct Example {
@@ -92,74 +112,101 @@ fn texts() -> Vec<Example> {
         .into()
 }
 
-/// The length, or the refusal.
-fn said(answer: Result<Vec<u8>, u32>) -> String {
-    match answer {
-        Ok(profile) => profile.len().to_string(),
-        Err(refusal) => format!("refused {refusal}"),
+/// An encoding of the scope: its name, the length of the output if it matters, and the length or
+/// refusal that the scope gives.
+pub struct Run {
+    pub name: &'static str,
+    pub encoding: Encoding,
+    pub room: Option<u32>,
+    pub number: u32,
+}
+
+impl Run {
+    fn new(name: &'static str, encoding: Encoding, number: u32) -> Self {
+        Self {
+            name,
+            encoding,
+            room: None,
+            number,
+        }
     }
 }
 
-fn profiles() -> Vec<Example> {
+/// The examples that are run and not proved; the fixed list has them too.
+pub fn run() -> Vec<Run> {
     let [rx, ry, _, _, bx, by] = named_primaries()[0];
     let red_twice = Primaries::own([rx, ry, rx, ry, bx, by]);
     let singular = Encoding::rgb(White::named(0), red_twice, SRGB, 0);
-    let tried = [
-        ("D65 SRGB SRGB Perceptual", srgb(0), "504"),
-        ("D65 SRGB SRGB Relative", srgb(1), "536"),
-        (
-            "gray D65 Relative SRGB",
-            Encoding::gray(White::named(0), SRGB, 1),
-            "328",
-        ),
-        ("XYB", Encoding::xyb(0), "720"),
-        ("XYB Relative", Encoding::xyb(1), "refused 2"),
-        (
+    let [small_rgb, small_gray] = gamma(1.0 / 32768.0);
+    let [zero_rgb, zero_gray] = gamma(0.0);
+    vec![
+        Run::new(
             "RGB white (0, 1), SRGB, SRGB, Perceptual",
             own_white(0.0, 1.0),
-            "544",
+            544,
         ),
-        ("gray with wy 0", own_gray(0.3, 0.0), "refused 3"),
-        ("RGB with wy 0", own_white(0.3, 0.0), "refused 4"),
-        ("gray (0, 1e-12)", own_gray(0.0, 1e-12), "refused 7"),
-        ("red put for green too, under D65", singular, "refused 6"),
+        Run::new("gray with wy 0", own_gray(0.3, 0.0), 3),
+        Run::new("RGB with wy 0", own_white(0.3, 0.0), 4),
+        Run::new("gray (0, 1e-12)", own_gray(0.0, 1e-12), 7),
+        Run::new("red put for green too, under D65", singular, 6),
+        Run::new("RGB with gamma 0", zero_rgb, 8),
+        Run::new("gray with gamma 0", zero_gray, 8),
+        Run::new("RGB with gamma 1/32768", small_rgb, 8),
+        Run::new("gray with gamma 1/32768", small_gray, 8),
+        Run {
+            room: Some(503),
+            ..Run::new("output 503 for sRGB", srgb(0), 9)
+        },
+    ]
+}
+
+/// RGB and gray of a gamma.
+fn gamma(g: f32) -> [Encoding; 2] {
+    let white = White::named(0);
+    let rgb = Encoding::rgb(white, Primaries::named(0), Curve::gamma(g), 0);
+    [rgb, Encoding::gray(white, Curve::gamma(g), 0)]
+}
+
+/// The infinite gammas of the scope.
+pub fn infinite_gammas() -> [Encoding; 2] {
+    gamma(f32::INFINITY)
+}
+
+fn profiles() -> Vec<Example> {
+    let mut tried = vec![
+        Run::new("D65 SRGB SRGB Perceptual", srgb(0), 504),
+        Run::new("D65 SRGB SRGB Relative", srgb(1), 536),
+        Run::new(
+            "gray D65 Relative SRGB",
+            Encoding::gray(White::named(0), SRGB, 1),
+            328,
+        ),
+        Run::new("XYB", Encoding::xyb(0), 720),
+        Run::new("XYB Relative", Encoding::xyb(1), 2),
     ];
-    let mut all: Vec<Example> = tried
-        .map(|(name, encoding, expected)| {
-            Example::new(name, expected, said(answer::profile(&encoding)))
-        })
-        .into();
-    all.insert(
-        0,
-        Example::new(
-            "text of D65 SRGB SRGB Perceptual",
-            "sRGB",
-            answer::description(&srgb(0)),
-        ),
+    tried.extend(run());
+    let text = Example::new(
+        "text of D65 SRGB SRGB Perceptual",
+        "sRGB",
+        answer::description(&srgb(0)),
     );
-    for (room, expected) in [(503, "refused 9"), (504, "504")] {
-        let name = format!("output {room} for sRGB");
-        let found = said(answer::profile_within(&srgb(0), room));
-        all.push(Example::new(&name, expected, found));
-    }
-    all
+    let found = |one: Run| {
+        let room = one.room.map_or(usize::MAX, |room| room as usize);
+        let found = match answer::profile_within(&one.encoding, room) {
+            Ok(profile) => profile.len() as u32,
+            Err(refusal) => refusal,
+        };
+        Example::new(one.name, &one.number.to_string(), found.to_string())
+    };
+    std::iter::once(text)
+        .chain(tried.into_iter().map(found))
+        .collect()
 }
 
 fn gammas() -> Vec<Example> {
-    let rgb = |g| Encoding::rgb(White::named(0), Primaries::named(0), Curve::gamma(g), 0);
-    let gray = |g| Encoding::gray(White::named(0), Curve::gamma(g), 0);
     let mut all = Vec::new();
-    for (name, gamma) in [("0", 0.0), ("1/32768", 1.0 / 32768.0)] {
-        for (kind, encoding) in [("RGB", rgb(gamma)), ("gray", gray(gamma))] {
-            let name = format!("{kind} with gamma {name}");
-            let found = said(answer::profile(&encoding));
-            all.push(Example::new(&name, "refused 8", found));
-        }
-    }
-    for (kind, tag, encoding) in [
-        ("RGB", b"rTRC", rgb(f32::INFINITY)),
-        ("gray", b"kTRC", gray(f32::INFINITY)),
-    ] {
+    let both = [("RGB", b"rTRC"), ("gray", b"kTRC")];
+    for ((kind, tag), encoding) in both.into_iter().zip(infinite_gammas()) {
         let name = format!("{kind} with an infinite gamma: number");
         all.push(Example::new(&name, "0", fixed_of(&encoding, tag, 12)));
         let name = format!("{kind} with an infinite gamma: end of the text");
@@ -260,21 +307,11 @@ fn curves() -> Vec<Example> {
 
 /// RFC 1321's test vectors.
 fn vectors() -> Vec<Example> {
-    let expected = [
-        "d41d8cd98f00b204e9800998ecf8427e",
-        "0cc175b9c0f1b6a831c399e269772661",
-        "900150983cd24fb0d6963f7d28e17f72",
-        "f96b697d7cb7938d525a2f31aaf161d0",
-        "c3fcd3d76192e4007dfb496cca67e13b",
-        "d174ab98d277d9f5a5611c2c9f419d9f",
-        "57edf4a22be3c955ac49da2e2107b67a",
-    ];
-    let both = MESSAGES.iter().zip(expected);
-    both.map(|(message, expected)| {
+    let one = |(message, digest): (&str, &str)| {
         let name = format!("MD5 of \"{message}\"");
-        Example::new(&name, expected, hex(&leaves::md5(message.as_bytes())))
-    })
-    .collect()
+        Example::new(&name, digest, hex(&leaves::md5(message.as_bytes())))
+    };
+    RFC_1321.map(one).into()
 }
 
 /// The listing that the scope prints whole, and the empty job.

@@ -74,6 +74,15 @@ fn read(job: &[u8]) -> Result<Vec<(u8, Encoding)>, u32> {
     Ok(all)
 }
 
+/// The encoding that the bytes of one entry mean; None where they are too few, too many or without
+/// meaning.
+pub fn encoding(section: u8, entry: &[u8]) -> Option<Encoding> {
+    let mut rest = Rest(entry);
+    let encoding = rest.entry(section).ok()?;
+    let whole = SECTIONS.contains(&section) && rest.0.is_empty();
+    encoding.original().filter(|_| whole).map(|_| encoding)
+}
+
 /// The bytes of a job that are not read yet. Each call takes from the front, or answers 41 where
 /// they do not suffice.
 struct Rest<'a>(&'a [u8]);

@@ -7,7 +7,6 @@ pub mod conformance;
 pub mod encoding;
 pub mod examples;
 pub mod inputs;
-pub mod job_list;
 pub mod jobs;
 pub mod leaves;
 pub mod list;

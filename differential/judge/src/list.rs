@@ -1,35 +1,36 @@
-//! The fixed list: inputs and the original's answers, one record a line. README.md describes the
-//! fields. Each line starts with its input, so a list can also be checked against the original.
+//! The fixed list that `crates/vectors` replays: a first line, then a record a line. README.md
+//! describes the form. A record starts with its input, so a list can also be checked.
 
 use std::fmt::Write;
 
-use crate::answer;
-use crate::encoding::{Curve, Encoding, Primaries, White};
+use crate::encoding::Encoding;
+use crate::inputs::jobs::Job;
 use crate::inputs::pieces::Colours;
-use crate::inputs::{Random, encodings, floats, pieces};
 use crate::leaves::{self, Numbers};
+use crate::reader::{self, Plan};
+use crate::{answer, jobs};
 
 /// The seed of the list that the repository keeps.
 pub const SEED: u64 = 1;
 
-/// RFC 1321's test messages, appendix A.5.
-pub const MESSAGES: [&str; 7] = [
-    "",
-    "a",
-    "abc",
-    "message digest",
-    "abcdefghijklmnopqrstuvwxyz",
-    "ABCDEFGHIJKLMNOPQRSTUVWXYZabcdefghijklmnopqrstuvwxyz0123456789",
-    "12345678901234567890123456789012345678901234567890123456789012345678901234567890",
-];
+/// The commit of libjxl/jxl-rs whose files answer (`SHA256SUMS` has them).
+const COMMIT: &str = "9b3c1af91e";
+
+/// What an output holds before it is lent.
+const UNTOUCHED: u8 = 165;
+
+/// The first line of a list.
+pub fn first_line(seed: u64) -> String {
+    format!("merqyduk vectors, format 2, seed {seed}, jxl-rs {COMMIT}")
+}
 
 /// The input of a record.
 #[derive(Clone, Debug, PartialEq, Eq)]
 pub enum Input {
     /// `m`: a message for MD5.
     Message(Vec<u8>),
-    /// `b`: the length of a pattern of bytes for MD5.
-    Pattern(usize),
+    /// `b`: bytes for MD5.
+    Bytes(Vec<u8>),
     /// `f`: a float for the fixed number.
     Fixed(u32),
     /// `n`: a double to narrow.
@@ -40,133 +41,252 @@ pub enum Input {
     Colours(Colours),
     /// `g`: a gray white.
     GrayWhite(u32, u32),
-    /// `e`: an encoding.
-    Encoding(Encoding),
+    /// `e`: the length of an output, and an encoding.
+    Encoding(u32, Encoding),
+    /// `r`: a file for the reader.
+    File(Vec<u8>),
+    /// `j`: a job.
+    Job(Vec<u8>),
 }
 
-/// The inputs of the list, section by section.
-pub fn inputs(seed: u64) -> Vec<Input> {
-    let mut random = Random::new(seed);
-    let random = &mut random;
-    let mut all: Vec<Input> = MESSAGES.map(|m| Input::Message(m.into())).into();
-    let lengths = (0..=130).chain(180..=200).chain(440..=520);
-    all.extend(lengths.chain([1200, 1240, 4096]).map(Input::Pattern));
-    all.extend(floats::fixed(random, 1500).into_iter().map(Input::Fixed));
-    all.extend(floats::narrow(random, 1500).into_iter().map(Input::Narrow));
-    all.extend(floats::text(random, 1500).into_iter().map(Input::Text));
-    all.extend(
-        pieces::colours(random, 1200)
-            .into_iter()
-            .map(Input::Colours),
-    );
-    let whites = pieces::gray_whites(random, 400);
-    all.extend(whites.into_iter().map(|(wx, wy)| Input::GrayWhite(wx, wy)));
-    let encodings = encodings::encodings(random, 4000);
-    all.extend(encodings.into_iter().map(Input::Encoding));
-    all
+/// A record: an input, and fields of its answer that 01 or RFC 1321 gives, each with its place.
+#[derive(Clone, Debug)]
+pub struct Record {
+    pub input: Input,
+    pub given: Vec<(usize, String)>,
 }
 
-impl Input {
-    /// The record: the letter, the input, the original's answer.
-    pub fn line(&self) -> String {
-        match self {
-            Self::Message(message) => message_line(message),
-            Self::Pattern(length) => pattern_line(*length),
-            Self::Fixed(bits) => {
-                let refused = u8::from(leaves::fixed(*bits).is_none());
-                let number = leaves::fixed(*bits).unwrap_or(0);
-                format!("f{bits:08x}{refused}{number:08x}")
-            }
-            Self::Narrow(bits) => format!("n{bits:016x}{:08x}", leaves::narrow(*bits)),
-            Self::Text(bits) => {
-                let text = leaves::text(*bits);
-                let digits = hex(text.as_bytes());
-                format!("t{bits:08x}{:02x}{digits:0<96}", text.len())
-            }
-            Self::Colours(colours) => colours_line(colours),
-            Self::GrayWhite(wx, wy) => {
-                format!(
-                    "g{wx:08x}{wy:08x}{}",
-                    numbers(&leaves::gray_white(*wx, *wy))
-                )
-            }
-            Self::Encoding(encoding) => encoding_line(encoding),
+impl Record {
+    pub fn new(input: Input) -> Self {
+        Self {
+            input,
+            given: Vec::new(),
         }
     }
 
-    /// The input of a record, or None where the line is none.
-    pub fn of_line(line: &str) -> Option<Self> {
-        let mut fields = Fields(line.get(1..)?);
-        let input = match line.get(..1)? {
-            "m" => {
-                let length = fields.number(2)? as usize;
-                let bytes: Option<Vec<u8>> = (0..length).map(|_| fields.byte()).collect();
-                return bytes.map(Self::Message);
-            }
-            "b" => Self::Pattern(fields.number(4)? as usize),
-            "f" => Self::Fixed(fields.bits()?),
-            "n" => Self::Narrow(fields.number(16)?),
-            "t" => Self::Text(fields.bits()?),
-            "c" => {
-                let (wx, wy) = (fields.bits()?, fields.bits()?);
-                fields.0 = fields.0.get(1 + 9 * 8..)?;
-                let xy = fields.six()?;
-                Self::Colours(Colours { wx, wy, xy })
-            }
-            "g" => Self::GrayWhite(fields.bits()?, fields.bits()?),
-            "e" => Self::Encoding(fields.encoding()?),
-            _ => return None,
-        };
-        Some(input)
+    /// The line of the list.
+    ///
+    /// # Panics
+    /// If a given field is not what the original leads to.
+    pub fn line(&self) -> String {
+        let mut answer = self.input.answer();
+        for (place, field) in &self.given {
+            assert_eq!(answer[*place], *field, "{:?}", self.input);
+            answer[*place].clone_from(field);
+        }
+        line(self.input.letter(), &self.input.fields(), &answer)
     }
 }
 
-fn message_line(message: &[u8]) -> String {
-    let md5 = hex(&leaves::md5(message));
-    format!("m{:02x}{:0<160}{md5}", message.len(), hex(message))
-}
-
-fn pattern_line(length: usize) -> String {
-    let bytes: Vec<u8> = (0..length).map(|i| (7 * i + length) as u8).collect();
-    format!("b{length:04x}{}", hex(&leaves::md5(&bytes)))
-}
-
-fn colours_line(&Colours { wx, wy, xy }: &Colours) -> String {
-    let adaptation = numbers(&leaves::adaptation(wx, wy));
-    let columns = numbers(&leaves::columns(wx, wy, xy));
-    format!("c{wx:08x}{wy:08x}{adaptation}{}{columns}", words(&xy))
-}
-
-fn encoding_line(encoding: &Encoding) -> String {
-    let Encoding {
-        kind,
-        white,
-        primaries,
-        curve,
-        intent,
-    } = encoding;
-    let (answer, md5) = match answer::profile(encoding) {
-        Ok(profile) => (profile.len() as u32, leaves::md5(&profile)),
-        Err(refusal) => (refusal, [0; 16]),
-    };
-    let text = answer::description(encoding);
-    let mut line = format!("e{kind:x}{:x}{:08x}{:08x}", white.kind, white.wx, white.wy);
-    line += &format!("{:x}{}", primaries.kind, words(&primaries.xy));
-    line += &format!("{:x}{:08x}{intent:x}", curve.kind, curve.gamma);
-    line += &format!("{answer:04x}{}", hex(&md5));
-    line += &format!("{:04x}{}", text.len(), hex(&leaves::md5(text.as_bytes())));
+fn line(letter: char, input: &[String], answer: &[String]) -> String {
+    let mut line = letter.to_string();
+    for field in input.iter().filter(|field| !field.is_empty()) {
+        line += " ";
+        line += field;
+    }
+    line += " =";
+    for field in answer.iter().filter(|field| !field.is_empty()) {
+        line += " ";
+        line += field;
+    }
     line
 }
 
-fn numbers<const N: usize>(numbers: &Numbers<N>) -> String {
-    format!("{:x}{}", numbers.status, words(&numbers.bits))
+impl Input {
+    pub fn letter(&self) -> char {
+        match self {
+            Self::Message(_) => 'm',
+            Self::Bytes(_) => 'b',
+            Self::Fixed(_) => 'f',
+            Self::Narrow(_) => 'n',
+            Self::Text(_) => 't',
+            Self::Colours(_) => 'c',
+            Self::GrayWhite(..) => 'g',
+            Self::Encoding(..) => 'e',
+            Self::File(_) => 'r',
+            Self::Job(_) => 'j',
+        }
+    }
+
+    /// The fields of the input.
+    fn fields(&self) -> Vec<String> {
+        match self {
+            Self::Message(bytes) | Self::Bytes(bytes) => vec![hex(bytes)],
+            Self::File(bytes) | Self::Job(bytes) => vec![hex(bytes)],
+            Self::Fixed(bits) | Self::Text(bits) => words(&[*bits]),
+            Self::Narrow(bits) => vec![format!("{bits:016x}")],
+            Self::Colours(Colours { wx, wy, xy }) => [words(&[*wx, *wy]), words(xy)].concat(),
+            Self::GrayWhite(wx, wy) => words(&[*wx, *wy]),
+            Self::Encoding(room, encoding) => {
+                let kind = format!("{:02x}", encoding.kind);
+                vec![kind, word(*room), hex(&entry(encoding))]
+            }
+        }
+    }
+
+    /// The fields of the answer.
+    fn answer(&self) -> Vec<String> {
+        match self {
+            Self::Message(bytes) | Self::Bytes(bytes) => vec![hex(&leaves::md5(bytes))],
+            Self::Fixed(bits) => match leaves::fixed(*bits) {
+                Some(number) => words(&[0, number as u32]),
+                None => words(&[1, 0]),
+            },
+            Self::Narrow(bits) => words(&[leaves::narrow(*bits)]),
+            Self::Text(bits) => vec![hex(leaves::text(*bits).as_bytes())],
+            Self::Colours(Colours { wx, wy, xy }) => {
+                let columns = numbers(&leaves::columns(*wx, *wy, *xy));
+                [numbers(&leaves::adaptation(*wx, *wy)), columns].concat()
+            }
+            Self::GrayWhite(wx, wy) => match leaves::gray_white(*wx, *wy) {
+                white if white.status == 0 => numbers(&white),
+                white => words(&[white.status]),
+            },
+            Self::Encoding(room, encoding) => written(*room as usize, encoding),
+            Self::File(file) => read(file),
+            Self::Job(job) => entries(job),
+        }
+    }
+
+    /// The input of a line, or None where it is no record.
+    pub fn of_line(line: &str) -> Option<Self> {
+        let (letter, rest) = line.split_at_checked(1)?;
+        let (input, _) = rest.split_once(" =")?;
+        let bytes = unhex(&input.replace(' ', ""))?;
+        let mut rest = &bytes[..];
+        let input = match letter {
+            "m" => return Some(Self::Message(bytes)),
+            "b" => return Some(Self::Bytes(bytes)),
+            "r" => return Some(Self::File(bytes)),
+            "j" => return Some(Self::Job(bytes)),
+            "f" => Self::Fixed(take_word(&mut rest)?),
+            "n" => {
+                let high = u64::from(take_word(&mut rest)?);
+                Self::Narrow(high << 32 | u64::from(take_word(&mut rest)?))
+            }
+            "t" => Self::Text(take_word(&mut rest)?),
+            "c" => {
+                let (wx, wy) = (take_word(&mut rest)?, take_word(&mut rest)?);
+                let mut xy = [0; 6];
+                for bits in &mut xy {
+                    *bits = take_word(&mut rest)?;
+                }
+                Self::Colours(Colours { wx, wy, xy })
+            }
+            "g" => Self::GrayWhite(take_word(&mut rest)?, take_word(&mut rest)?),
+            "e" => {
+                let (kind, after) = rest.split_first()?;
+                rest = after;
+                let room = take_word(&mut rest)?;
+                let encoding = jobs::encoding(*kind, rest)?;
+                rest = &[];
+                Self::Encoding(room, encoding)
+            }
+            _ => return None,
+        };
+        rest.is_empty().then_some(input)
+    }
 }
 
-fn words(words: &[u32]) -> String {
-    words.iter().fold(String::new(), |mut all, word| {
-        write!(all, "{word:08x}").expect("a string takes all");
-        all
-    })
+/// The entry of an encoding in a job: the bytes of its section after the count.
+fn entry(encoding: &Encoding) -> Vec<u8> {
+    let job = Job::of(&[*encoding]);
+    let count = job.counts[usize::from(encoding.kind) - 1];
+    let end = job.bytes.len() - (job.counts.len() - usize::from(encoding.kind));
+    job.bytes[count + 1..end].to_vec()
+}
+
+/// The writer's answer into an output of `room` bytes, that whole output, and the text.
+fn written(room: usize, encoding: &Encoding) -> Vec<String> {
+    let mut output = vec![UNTOUCHED; room];
+    let number = match answer::profile_within(encoding, room) {
+        Ok(profile) => {
+            output[..profile.len()].copy_from_slice(&profile);
+            profile.len() as u32
+        }
+        Err(refusal) => refusal,
+    };
+    let text = answer::description(encoding);
+    vec![
+        word(number),
+        hex(&leaves::md5(&output)),
+        word(text.len() as u32),
+        hex(&leaves::md5(text.as_bytes())),
+    ]
+}
+
+/// The reader's answer: the refusal or 0, and the plan; all zero where the file is refused.
+fn read(file: &[u8]) -> Vec<String> {
+    let (refusal, plan) = match reader::read(file) {
+        Ok(plan) => (0, plan),
+        Err(refusal) => (refusal, Plan::default()),
+    };
+    let first = [
+        refusal,
+        plan.kind.into(),
+        plan.intent,
+        plan.curve.into(),
+        plan.gamma as u32,
+        plan.cicp.into(),
+    ];
+    let rest = plan.white.iter().chain(&plan.chad).chain(&plan.columns);
+    let mut fields = words(&first);
+    fields.extend(rest.map(|number| word(*number as u32)));
+    fields.push(word(plan.text.len() as u32));
+    fields.push(hex(&plan.text));
+    fields
+}
+
+/// The answer to a job: the refusal or 0, the number of entries; the profiles; each entry by its
+/// index, and one past the last; the listing.
+fn entries(job: &[u8]) -> Vec<String> {
+    let answer = jobs::answer(job);
+    let (refusal, count) = match &answer {
+        Ok(entries) => (0, entries.len()),
+        Err(refusal) => (*refusal, 0),
+    };
+    let mut fields = words(&[refusal, count as u32]);
+    fields.extend(outputs(&jobs::profiles(&answer)));
+    for entry in answer.iter().flatten() {
+        let number = match &entry.profile {
+            Ok(profile) => profile.len() as u32,
+            Err(refusal) => *refusal,
+        };
+        fields.extend(words(&[entry.section.into(), entry.place.into(), number]));
+    }
+    fields.extend(words(&[refusal, 0, refusal]));
+    let listing = jobs::listing(&answer);
+    fields.extend(outputs(listing.as_bytes()));
+    fields.push(hex(listing.as_bytes()));
+    fields
+}
+
+/// What is answered and what an output holds, for one that is a byte too short and for one of the
+/// right length. There is none shorter than no bytes.
+fn outputs(bytes: &[u8]) -> Vec<String> {
+    let (refusal, short) = match bytes.len() {
+        0 => (0, 0),
+        n => (9, n - 1),
+    };
+    vec![
+        word(refusal),
+        hex(&leaves::md5(&vec![UNTOUCHED; short])),
+        word(bytes.len() as u32),
+        hex(&leaves::md5(bytes)),
+    ]
+}
+
+fn numbers<const N: usize>(numbers: &Numbers<N>) -> Vec<String> {
+    [words(&[numbers.status]), words(&numbers.bits)].concat()
+}
+
+/// A number of 32 bits as a field.
+pub fn word(word: u32) -> String {
+    format!("{word:08x}")
+}
+
+fn words(words: &[u32]) -> Vec<String> {
+    words.iter().copied().map(word).collect()
 }
 
 /// Bytes as lower-case hexadecimal digits.
@@ -177,54 +297,17 @@ pub fn hex(bytes: &[u8]) -> String {
     })
 }
 
-/// What is left of a line; each field is taken from the front.
-struct Fields<'a>(&'a str);
-
-impl Fields<'_> {
-    fn number(&mut self, digits: usize) -> Option<u64> {
-        let (field, rest) = self.0.split_at_checked(digits)?;
-        self.0 = rest;
-        u64::from_str_radix(field, 16).ok()
+fn unhex(digits: &str) -> Option<Vec<u8>> {
+    let pair = |pair: &[u8]| u8::from_str_radix(std::str::from_utf8(pair).ok()?, 16).ok();
+    let pairs = digits.as_bytes().chunks_exact(2);
+    if !pairs.remainder().is_empty() {
+        return None;
     }
+    pairs.map(pair).collect()
+}
 
-    fn bits(&mut self) -> Option<u32> {
-        self.number(8).map(|bits| bits as u32)
-    }
-
-    fn byte(&mut self) -> Option<u8> {
-        self.number(2).map(|byte| byte as u8)
-    }
-
-    fn digit(&mut self) -> Option<u8> {
-        self.number(1).map(|digit| digit as u8)
-    }
-
-    fn six(&mut self) -> Option<[u32; 6]> {
-        let mut six = [0; 6];
-        for bits in &mut six {
-            *bits = self.bits()?;
-        }
-        Some(six)
-    }
-
-    fn encoding(&mut self) -> Option<Encoding> {
-        let encoding = Encoding {
-            kind: self.digit()?,
-            white: White {
-                kind: self.digit()?,
-                wx: self.bits()?,
-                wy: self.bits()?,
-            },
-            primaries: Primaries {
-                kind: self.digit()?,
-                xy: self.six()?,
-            },
-            curve: Curve {
-                kind: self.digit()?,
-                gamma: self.bits()?,
-            },
-            intent: self.digit()?,
-        };
-        encoding.original().map(|_| encoding)
-    }
+fn take_word(rest: &mut &[u8]) -> Option<u32> {
+    let (bytes, after) = rest.split_first_chunk()?;
+    *rest = after;
+    Some(u32::from_be_bytes(*bytes))
 }

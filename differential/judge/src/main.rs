@@ -4,8 +4,9 @@ use std::io::{BufRead, BufWriter, Read, Write};
 use std::process::ExitCode;
 
 use judge::encoding::{Curve, Encoding, Primaries, White};
-use judge::list::{self, Input, hex};
-use judge::{answer, bench, conformance, examples, job_list, jobs, leaves, reader};
+use judge::inputs::records;
+use judge::list::{self, Input, Record, hex};
+use judge::{answer, bench, conformance, examples, jobs, leaves, reader};
 
 const USAGE: &str = "\
 judge profile ENCODING [ROOM]  the profile, or the refusal; ROOM is the output's length
@@ -17,7 +18,6 @@ judge examples                   tries the numbers of the scope
 judge list [SEED]              writes the fixed list
 judge check < LIST             tries a list, line by line
 judge job < JOB                the listing of a job
-judge job-list [SEED]          writes the list of jobs
 judge read < PROFILE           the plan of a profile, or the refusal
 judge bench                    times the four kinds of profile
 judge conformance [SEED]       writes the conformance list
@@ -67,7 +67,6 @@ fn run(command: &str, mut words: Words) -> Result<bool, String> {
         "check" => return check_list(),
         "job" => show_listing()?,
         "read" => show_plan()?,
-        "job-list" => print!("{}", job_list::text(words.number_or(list::SEED)?)),
         "bench" => {
             for (name, nanoseconds) in bench::original() {
                 println!("{name}: {nanoseconds:.0} ns");
@@ -114,8 +113,10 @@ fn try_examples() -> bool {
 
 fn write_list(seed: u64) -> Result<(), String> {
     let mut out = BufWriter::new(std::io::stdout().lock());
-    for input in list::inputs(seed) {
-        writeln!(out, "{}", input.line()).map_err(|error| error.to_string())?;
+    let records = records::all(seed);
+    let lines = records.iter().map(Record::line);
+    for line in std::iter::once(list::first_line(seed)).chain(lines) {
+        writeln!(out, "{line}").map_err(|error| error.to_string())?;
     }
     out.flush().map_err(|error| error.to_string())
 }
@@ -123,16 +124,16 @@ fn write_list(seed: u64) -> Result<(), String> {
 /// Reads a list and says, for each type, how many of its lines are the original's.
 fn check_list() -> Result<bool, String> {
     let mut kinds: Vec<(char, u32, u32)> = Vec::new();
-    for line in std::io::stdin().lock().lines() {
+    for line in std::io::stdin().lock().lines().skip(1) {
         let line = line.map_err(|error| error.to_string())?;
         let input = Input::of_line(&line).ok_or(format!("no record: {line}"))?;
-        let kind = line.chars().next().unwrap_or_default();
+        let kind = input.letter();
         if kinds.last().is_none_or(|last| last.0 != kind) {
             kinds.push((kind, 0, 0));
         }
         let last = kinds.last_mut().expect("just pushed");
         last.2 += 1;
-        last.1 += u32::from(input.line() == line);
+        last.1 += u32::from(Record::new(input).line() == line);
     }
     for (kind, good, all) in &kinds {
         println!("{kind}: {good} of {all}");

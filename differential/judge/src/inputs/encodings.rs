@@ -16,8 +16,8 @@ pub fn encodings(random: &mut Random, count: usize) -> Vec<Encoding> {
     super::filled(boundary(), count, || encoding(random))
 }
 
-/// What the comparisons are tried with: the same, and primaries on one line. The fixed list and the
-/// list of jobs are made without these, so that they stay as they are.
+/// What the comparisons are tried with: the same, and primaries on one line. The fixed list is made
+/// without these, so that it stays as it is.
 pub fn compared(random: &mut Random, count: usize) -> Vec<Encoding> {
     super::filled(compared_boundary(), count, || any(random))
 }

@@ -11,6 +11,7 @@ pub mod pieces;
 pub mod plans;
 pub mod profile_cases;
 pub mod random;
+pub mod records;
 
 use std::collections::HashSet;
 use std::hash::Hash;

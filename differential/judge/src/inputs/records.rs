@@ -1,0 +1,151 @@
+//! The records of the fixed list, type by type: what 01 and RFC 1321 give first, then boundary
+//! cases, then random ones.
+
+use super::jobs::Source;
+use super::random::Random;
+use super::{below, damage, encodings, floats, job_cases, pieces, plans, profile_cases};
+use crate::encoding::Encoding;
+use crate::examples::{self, RFC_1321, Run};
+use crate::list::{Input, Record, hex, word};
+use crate::profiles::Sheet;
+use crate::{answer, reader};
+
+/// The longest output that a record lends: no profile is as long.
+const ROOM: u32 = 1300;
+
+/// All records of a seed.
+pub fn all(seed: u64) -> Vec<Record> {
+    let mut random = Random::new(seed);
+    let random = &mut random;
+    let plain = |inputs: Vec<Input>| inputs.into_iter().map(Record::new);
+    let mut all = messages();
+    all.extend(lengths().map(|n| Record::new(Input::Bytes(pattern(n)))));
+    let fixed = floats::fixed(random, 1500).into_iter().map(Input::Fixed);
+    all.extend(plain(fixed.collect()));
+    let narrow = floats::narrow(random, 1500).into_iter().map(Input::Narrow);
+    all.extend(plain(narrow.collect()));
+    let texts = floats::text(random, 1500).into_iter().map(Input::Text);
+    all.extend(plain(texts.collect()));
+    let colours = pieces::colours(random, 1150).into_iter();
+    all.extend(plain(colours.map(Input::Colours).collect()));
+    let whites = pieces::gray_whites(random, 400).into_iter();
+    all.extend(plain(
+        whites.map(|(wx, wy)| Input::GrayWhite(wx, wy)).collect(),
+    ));
+    all.extend(encoded_examples());
+    let encodings = encodings::encodings(random, 2600);
+    let outputs = encodings.into_iter().enumerate();
+    all.extend(plain(
+        outputs
+            .map(|(at, one)| Input::Encoding(room(random, at, &one), one))
+            .collect(),
+    ));
+    all.extend(infinite_gammas());
+    all.extend(plain(files(random).into_iter().map(Input::File).collect()));
+    all.extend(job_examples());
+    all.extend(plain(jobs(random).into_iter().map(Input::Job).collect()));
+    all
+}
+
+/// RFC 1321, A.5, with its own digests.
+fn messages() -> Vec<Record> {
+    let one = |(message, digest): (&str, &str)| Record {
+        input: Input::Message(message.into()),
+        given: vec![(0, digest.to_string())],
+    };
+    RFC_1321.map(one).into()
+}
+
+/// Every place in a block, and both sides of where a block is added, up to the longest file.
+fn lengths() -> impl Iterator<Item = usize> {
+    let later = [183, 192, 320, 440, 448, 504, 512, 520, 1015, 1200, 1240];
+    (0..=130).chain(later.into_iter().flat_map(|n| [n, n + 1]))
+}
+
+fn pattern(length: usize) -> Vec<u8> {
+    (0..length).map(|i| (7 * i + length) as u8).collect()
+}
+
+/// The examples of 01 ("Sheets to try") that are run and not proved: the lengths and refusals are
+/// 01's.
+fn encoded_examples() -> Vec<Record> {
+    let one = |one: Run| Record {
+        input: Input::Encoding(one.room.unwrap_or(ROOM), one.encoding),
+        given: vec![(0, word(one.number))],
+    };
+    examples::run().into_iter().map(one).collect()
+}
+
+/// What is written for an infinite gamma; its number, the fifth field, is 0 by 01.
+fn infinite_gammas() -> Vec<Record> {
+    let one = |encoding| Record {
+        input: Input::File(answer::profile(&encoding).expect("accepted")),
+        given: vec![(4, word(0))],
+    };
+    examples::infinite_gammas().map(one).into()
+}
+
+/// The empty job, and the job of 01 with the listing that 01 prints.
+fn job_examples() -> Vec<Record> {
+    let listing = "profiles 2\n2 1 504\n3 1 refused 2\n";
+    vec![
+        Record {
+            input: Input::Job(Vec::new()),
+            given: vec![(0, word(41))],
+        },
+        Record {
+            input: Input::Job(job_cases::of_the_scope()),
+            given: vec![(19, hex(listing.as_bytes()))],
+        },
+    ]
+}
+
+/// One output in eight is a byte short, one as long as the profile, one any; the others are as long
+/// as the profile or longer.
+fn room(random: &mut Random, at: usize, encoding: &Encoding) -> u32 {
+    let length = match answer::profile(encoding) {
+        Ok(profile) => profile.len() as u32,
+        Err(_) => return random.below(ROOM + 1),
+    };
+    match at % 8 {
+        0 => length - 1,
+        1 => length,
+        2 => random.below(length + 20),
+        _ => length + random.below(ROOM + 1 - length),
+    }
+}
+
+/// Files for the reader: some that the original writes, some of plans that no encoding leads to;
+/// for each refusal some of the cases, evenly; then any, whole and damaged.
+fn files(random: &mut Random) -> Vec<Vec<u8>> {
+    let mut all: Vec<Vec<u8>> = (0..20)
+        .map(|_| Sheet::of(&plans::written(random)).bytes())
+        .collect();
+    all.extend((0..50).map(|_| Sheet::of(&plans::plan(random)).bytes()));
+    let short = all[0][..132].to_vec();
+    all.extend([short[..131].to_vec(), short, Vec::new()]);
+    let cases = profile_cases::cases(random);
+    let refusal = |file: &[u8]| reader::read(file).err().unwrap_or(0);
+    let numbers: Vec<u32> = cases.iter().map(|file| refusal(file)).collect();
+    for wanted in [0, 21, 22, 23, 24, 25, 26, 27, 28] {
+        let places: Vec<usize> = (0..cases.len())
+            .filter(|at| numbers[*at] == wanted)
+            .collect();
+        let step = places.len().div_ceil(10).max(1);
+        let offset = below(random, step);
+        let some = places.iter().skip(offset).step_by(step);
+        all.extend(some.map(|at| cases[*at].clone()));
+    }
+    all.extend((0..50).map(|_| damage::file(random)));
+    all
+}
+
+/// The cases, and 60 random jobs, good and damaged.
+fn jobs(random: &mut Random) -> Vec<Vec<u8>> {
+    let boundary = encodings::boundary();
+    let mut cases = job_cases::cases(random, &boundary);
+    cases.retain(|job| !job.is_empty() && *job != job_cases::of_the_scope());
+    let count = cases.len() + 60;
+    let source = Source::new(&boundary);
+    super::filled(cases, count, || source.job(random))
+}
