@@ -1,440 +1,48 @@
-// Replays the fixed list on standard input and counts, for each type of record, how many were tried and how many were matched. Each profile
-// that was written is read back too. Then tries the examples of 01 that are run.
-// The list holds the Rust's own answers and RFC 1321's vectors; differential/README.md says how it was made and what a record holds.
+// Replays the fixed list, the file `list` of data/: a record a line, which holds an input and the answer that is due. Prints for each type of
+// record how many were tried and how many the crates answer so, byte for byte; how often each refusal was such an answer; and the first line that
+// differs. The answers are the original Rust's, RFC 1321's and 01's; differential/README.md says what a record holds and how the list is made.
+use adaptation::Adaptation;
+use buffer::byte_at;
+use buffer::same_bytes;
 use color_encoding::EncodingCode;
-use color_encoding::IntentCode;
 use color_encoding::JxlColorEncoding;
-use color_encoding::JxlPrimaries;
-use color_encoding::JxlTransferFunction;
-use color_encoding::JxlWhitePoint;
-use color_encoding::PrimariesCode;
 use color_encoding::PrimariesXy;
-use color_encoding::RenderingIntent;
-use color_encoding::TransferFunctionCode;
-use color_encoding::WhitePointCode;
 use color_encoding::WhiteXy;
-use colorimetry::Adaptation;
 use colorimetry::Conversion;
-use libc::STDIN_FILENO;
+use job::EntryAnswer;
+use job::JobAnswer;
+use job_output::JobProfile;
+use job_output::MOST_LISTING;
+use job_output::Output;
 use libc::STDOUT_FILENO;
 use numbers::S15Fixed16;
+use reading::Reading;
+use std::num::wrapping_add_u64;
+use std::num::wrapping_add_usize;
+use std::num::wrapping_sub_usize;
 use white_point::WhiteXyz;
+use words::read_u32_be;
+use writer::MAX_WRITTEN;
 use writer::Profile;
+ghost use mathlib.Core.Path.{_≡_};
 ghost use Prim.Native.Nat.{_≤_};
+ghost use lib.ListN.{length};
 
-// ---- hexadecimal fields of a record; a place past the end reads as zero
+// What an output holds before it is lent.
+const UNTOUCHED: u8 = 165;
 
-fn nibble(b: u8) -> u64 {
-    let x = b as u64;
-    if 48 <= x && x <= 57 {
-        x - 48
-    } else if 97 <= x && x <= 102 {
-        x - 87
-    } else {
-        0
-    }
-}
+// ---- parts of a slice; one that is not there is empty
 
-// The digit i places after `at`.
-fn digit(s: &[u8], at: usize, i: usize) -> u64 {
-    if s.len() <= i {
-        return 0;
-    }
-    if s.len() - i <= at {
-        return 0;
-    }
-    nibble(s[at + i])
-}
-
-// The number that `digits` digits from `at` on make, modulo 2^64.
-fn number(s: &[u8], at: usize, digits: usize) -> u64 {
-    let mut value = 0u64;
-    for i in 0..digits {
-        value = std::num::wrapping_add_u64(value % 1152921504606846976 * 16, digit(s, at, i));
-    }
-    value
-}
-
-// Eight digits.
-fn word(s: &[u8], at: usize) -> u32 {
-    (number(s, at, 8) % 4294967296) as u32
-}
-
-// Two digits.
-fn byte(s: &[u8], at: usize) -> u8 {
-    (number(s, at, 2) % 256) as u8
-}
-
-// Eight digits as a float's bits.
-fn float(s: &[u8], at: usize) -> f32 {
-    numbers::f32_from_bits(word(s, at))
-}
-
-// Whether the first n bytes of b are those that the record spells from `at` on.
-fn spells(s: &[u8], at: usize, b: &[u8], n: usize) -> bool {
-    if b.len() < n {
-        return false;
-    }
-    if 4096 < n {
-        return false;
-    }
-    if 4096 < at {
-        return false;
-    }
-    for i in 0..n {
-        if b[i] != byte(s, at + 2 * i) {
-            return false;
+fn part(s: &[u8], at: usize, n: usize) -> &[u8] {
+    if at <= s.len() {
+        if n <= s.len() - at {
+            return &s[at..at + n];
         }
     }
-    true
+    &s[0..0]
 }
 
-// ---- the records of the list: reading one, and comparing what the crates answer with what it holds
-
-// The number of a record's type, from its letter: its place in the list, or 8.
-fn type_number(letter: u8) -> usize {
-    match letter {
-        b'm' => 0,
-        b'b' => 1,
-        b'f' => 2,
-        b'n' => 3,
-        b't' => 4,
-        b'c' => 5,
-        b'g' => 6,
-        b'e' => 7,
-        _ => 8,
-    }
-}
-
-// The digits that follow the letter, and the newline.
-fn width(kind: usize) -> usize {
-    match kind {
-        0 => 195,
-        1 => 37,
-        2 => 18,
-        3 => 25,
-        4 => 107,
-        5 => 211,
-        6 => 42,
-        _ => 150,
-    }
-}
-
-// Reads the next record into `line`, without its letter. Answers its type, or 8 at the end of the list.
-fn next(line: &mut [u8]) -> usize {
-    let mut letter = [0u8; 1];
-    if io::read_full(STDIN_FILENO, &mut letter) < 1 {
-        return 8;
-    }
-    let kind = type_number(letter[0]);
-    if 8 <= kind {
-        return 8;
-    }
-    let n = width(kind);
-    if line.len() < n {
-        return 8;
-    }
-    if io::read_full(STDIN_FILENO, &mut line[..n]) < n {
-        return 8;
-    }
-    kind
-}
-
-// Whether the crates answer what the record holds.
-fn matches(kind: usize, line: &[u8]) -> bool {
-    match kind {
-        0 => message(line),
-        1 => pattern(line),
-        2 => fixed(line),
-        3 => narrowed(line),
-        4 => decimals(line),
-        5 => columns(line),
-        6 => gray_white(line),
-        _ => encoding(line),
-    }
-}
-
-// Fills the front of `data` with the bytes that the record spells from `at` on; answers how many there are of `n`.
-fn spelled(line: &[u8], at: usize, data: &mut [u8], n: usize) -> usize
-    requires { ⌜ at ≤ 1000 ⌝ }
-{
-    if data.len() < n {
-        return 0;
-    }
-    if 4096 < n {
-        return 0;
-    }
-    for i in 0..n {
-        data[i] = byte(line, at + 2 * i);
-    }
-    n
-}
-
-// The n bytes whose byte i is (7 * i + n) mod 256, at the front of `data`.
-fn patterned(data: &mut [u8], n: usize) -> usize {
-    if data.len() < n {
-        return 0;
-    }
-    if 4096 < n {
-        return 0;
-    }
-    for i in 0..n {
-        data[i] = ((7 * i + n) % 256) as u8;
-    }
-    n
-}
-
-fn digest_spelled(line: &[u8], at: usize, data: &[u8], n: usize) -> bool {
-    if data.len() < n {
-        return false;
-    }
-    let digest = md5::compute_md5(&data[..n]);
-    spells(line, at, &digest, 16)
-}
-
-// m: RFC 1321, A.5: length, message, MD5.
-fn message(line: &[u8]) -> bool {
-    let mut data = [0u8; 80];
-    let n = spelled(line, 2, &mut data, (number(line, 0, 2) % 81) as usize);
-    digest_spelled(line, 162, &data, n)
-}
-
-// b: length n, MD5 of a pattern of n bytes.
-fn pattern(line: &[u8]) -> bool {
-    let mut data = [0u8; 4096];
-    let n = patterned(&mut data, (number(line, 0, 4) % 4097) as usize);
-    digest_spelled(line, 4, &data, n)
-}
-
-// f: the fixed number of a float, or 1 for one out of range.
-fn fixed(line: &[u8]) -> bool {
-    let refused = number(line, 8, 1);
-    match numbers::to_s15_fixed_16(float(line, 0)) {
-        S15Fixed16::Number(value) => refused == 0 && numbers::i32_to_bits(value) == word(line, 9),
-        S15Fixed16::OutOfRange => refused == 1,
-    }
-}
-
-// n: an f64 narrowed to an f32.
-fn narrowed(line: &[u8]) -> bool {
-    let wide = numbers::f64_from_bits(number(line, 0, 16));
-    numbers::f32_to_bits(numbers::f64_to_f32(wide)) == word(line, 16)
-}
-
-// t: the seven-decimal text of a float.
-fn decimals(line: &[u8]) -> bool {
-    let text = decimal::seven_decimals(float(line, 0));
-    let n = text.len;
-    let bytes = text.bytes;
-    n as u64 == number(line, 8, 2) && spells(line, 10, &bytes, n)
-}
-
-// Whether eight digits are the bits of a float.
-fn is_float(line: &[u8], at: usize, x: f32) -> bool {
-    numbers::f32_to_bits(x) == word(line, at)
-}
-
-fn row_holds(line: &[u8], at: usize, row: [f32; 3]) -> bool
-    requires { ⌜ at ≤ 1000 ⌝ }
-{
-    is_float(line, at, row[0]) && is_float(line, at + 8, row[1]) && is_float(line, at + 16, row[2])
-}
-
-// Whether nine words from `at` on are the bits of a matrix, row by row.
-fn holds(line: &[u8], at: usize, m: [[f32; 3]; 3]) -> bool
-    requires { ⌜ at ≤ 900 ⌝ }
-{
-    row_holds(line, at, m[0]) && row_holds(line, at + 24, m[1]) && row_holds(line, at + 48, m[2])
-}
-
-fn white(line: &[u8], at: usize) -> WhiteXy
-    requires { ⌜ at ≤ 1000 ⌝ }
-{
-    WhiteXy {
-        wx: float(line, at),
-        wy: float(line, at + 8),
-    }
-}
-
-fn primaries(line: &[u8], at: usize) -> PrimariesXy
-    requires { ⌜ at ≤ 1000 ⌝ }
-{
-    PrimariesXy {
-        rx: float(line, at),
-        ry: float(line, at + 8),
-        gx: float(line, at + 16),
-        gy: float(line, at + 24),
-        bx: float(line, at + 32),
-        by: float(line, at + 40),
-    }
-}
-
-// What a call answered, by 01's numbers; 0 where it refused nothing.
-fn adaptation_number(answer: Adaptation) -> u64 {
-    match answer {
-        Adaptation::Adapted => 0,
-        Adaptation::InvalidWhitePoint => 4,
-    }
-}
-
-fn conversion_number(answer: Conversion) -> u64 {
-    match answer {
-        Conversion::Converted => 0,
-        Conversion::InvalidWhitePoint => 4,
-        Conversion::MatrixInversionFailed => 6,
-    }
-}
-
-// A matrix that is refused stays zero, and stands as zeros in the record.
-fn adapted(line: &[u8]) -> bool {
-    let mut m = [[0.0f32; 3]; 3];
-    let answer = colorimetry::chad_matrix(white(line, 0), &mut m);
-    adaptation_number(answer) == number(line, 16, 1) && holds(line, 17, m)
-}
-
-fn converted(line: &[u8]) -> bool {
-    let mut m = [[0.0f32; 3]; 3];
-    let answer = colorimetry::create_icc_rgb_matrix(primaries(line, 89), white(line, 0), &mut m);
-    conversion_number(answer) == number(line, 137, 1) && holds(line, 138, m)
-}
-
-// c: a white's adaptation to D50, and the RGB matrix of primaries under it.
-fn columns(line: &[u8]) -> bool {
-    adapted(line) && converted(line)
-}
-
-// g: the XYZ of a gray white.
-fn gray_white(line: &[u8]) -> bool {
-    let status = number(line, 16, 1);
-    match white_point::cie_xyz_from_white_cie_xy(white(line, 0)) {
-        WhiteXyz::Xyz { x, y, z } => status == 0 && row_holds(line, 17, [x, y, z]),
-        WhiteXyz::InvalidWhitePointY => status == 3,
-    }
-}
-
-fn one_digit(line: &[u8], at: usize) -> u32 {
-    (number(line, at, 1) % 16) as u32
-}
-
-// The codes of an encoding.
-fn white_code(line: &[u8]) -> WhitePointCode {
-    JxlWhitePoint::from_number(one_digit(line, 1), float(line, 2), float(line, 10))
-}
-
-fn primaries_code(line: &[u8]) -> PrimariesCode {
-    let c = primaries(line, 19);
-    JxlPrimaries::from_number(one_digit(line, 18), c.rx, c.ry, c.gx, c.gy, c.bx, c.by)
-}
-
-fn curve_code(line: &[u8]) -> TransferFunctionCode {
-    JxlTransferFunction::from_number(one_digit(line, 67), float(line, 68))
-}
-
-fn intent_code(line: &[u8]) -> IntentCode {
-    RenderingIntent::from_number(one_digit(line, 76))
-}
-
-fn rgb_code(line: &[u8]) -> EncodingCode {
-    encoding_codes::rgb_from_codes(
-        white_code(line),
-        primaries_code(line),
-        curve_code(line),
-        intent_code(line),
-    )
-}
-
-fn encoding_code(line: &[u8]) -> EncodingCode {
-    match one_digit(line, 0) {
-        1 => encoding_codes::gray_from_codes(white_code(line), curve_code(line), intent_code(line)),
-        2 => rgb_code(line),
-        _ => encoding_codes::xyb_from_code(intent_code(line)),
-    }
-}
-
-// e: an encoding: its profile or refusal, and its description.
-fn encoding(line: &[u8]) -> bool {
-    match encoding_code(line) {
-        EncodingCode::Known(e) => described(line, e) && written(line, e),
-        EncodingCode::Unknown => false,
-    }
-}
-
-// What the reader answers with one byte of the profile changed.
-fn changed(profile: &mut [u8], at: usize) -> u32 {
-    if profile.len() <= at {
-        return 0;
-    }
-    let byte = profile[at];
-    profile[at] = byte ^ 255;
-    let answer = reader::read(profile);
-    profile[at] = byte;
-    answer.refusal
-}
-
-// Where the k-th change is made: in the size, header, intent, tag table, first element or id.
-fn place(k: u32, first: usize) -> usize {
-    match k {
-        0 => 3,
-        1 => 20,
-        2 => 67,
-        3 => 143,
-        4 => first,
-        _ => 99,
-    }
-}
-
-// Whether each change is refused by its number, 22 to 26 and 28.
-fn refuses_changes(profile: &mut [u8], first: usize) -> bool {
-    for k in 0..6 {
-        let number = if k < 5 { 22 + k } else { 28 };
-        if changed(&mut *profile, place(k, first)) != number {
-            return false;
-        }
-    }
-    true
-}
-
-// The profile is read back as one of its kind, and is refused with a change.
-fn read_back(kind: u32, profile: &mut [u8]) -> bool {
-    let answer = reader::read(profile);
-    if answer.refusal != 0 || answer.kind != kind {
-        return false;
-    }
-    let tags = (buffer::byte_at(profile, 131) % 16) as usize;
-    refuses_changes(profile, 132 + 12 * tags)
-}
-
-// The writer's answer is held as one number: a length as it is, a refusal above REFUSED.
-const REFUSED: u32 = 1000000;
-
-// That number, from one of a record or of 01: no profile is shorter than 100 bytes, and no refusal number is greater.
-fn told(n: u32) -> u32 {
-    if n < 100 { REFUSED + n } else { n }
-}
-
-fn answer(e: JxlColorEncoding, out: &mut [u8]) -> u32 {
-    match writer::maybe_create_profile(e, out) {
-        Profile::Written(n) => n,
-        Profile::Refused(refusal) => std::num::wrapping_add_u32(REFUSED, refusal),
-    }
-}
-
-// The length of the profile and its MD5, or the refusal. What is written is read back.
-fn written(line: &[u8], e: JxlColorEncoding) -> bool {
-    let mut space = [0u8; 1300];
-    let out: &mut [u8] = &mut space;
-    let n = answer(e, &mut *out);
-    if n != told((number(line, 77, 4) % 65536) as u32) {
-        return false;
-    }
-    if REFUSED <= n {
-        return true;
-    }
-    let profile = front(out, n as usize);
-    digest_spelled(line, 81, profile, n as usize) && read_back(one_digit(line, 0), profile)
-}
-
-fn front(s: &mut [u8], n: usize) -> &mut [u8] {
+fn lent(s: &mut [u8], n: usize) -> &mut [u8] {
     if n <= s.len() {
         &mut s[0..n]
     } else {
@@ -442,209 +50,506 @@ fn front(s: &mut [u8], n: usize) -> &mut [u8] {
     }
 }
 
-fn described(line: &[u8], e: JxlColorEncoding) -> bool {
-    let text = text::get_color_encoding_description(e);
-    let n = text.len;
-    let bytes = text.bytes;
-    n as u64 == number(line, 113, 4) && digest_spelled(line, 117, &bytes, n)
-}
+// ---- what an answer is made of; the put functions with a result answer the place after what they put
 
-// ---- the examples of 01 ("Sheets to try") that are run and not proved
-
-fn gray(wx: f32, wy: f32) -> JxlColorEncoding {
-    JxlColorEncoding::GrayscaleColorSpace {
-        white_point: JxlWhitePoint::Chromaticity { wx, wy },
-        transfer_function: JxlTransferFunction::SRGB,
-        rendering_intent: RenderingIntent::Perceptual,
-    }
-}
-
-fn rgb(
-    white_point: JxlWhitePoint,
-    primaries: JxlPrimaries,
-    transfer_function: JxlTransferFunction,
-) -> JxlColorEncoding {
-    JxlColorEncoding::RgbColorSpace {
-        white_point,
-        primaries,
-        transfer_function,
-        rendering_intent: RenderingIntent::Perceptual,
-    }
-}
-
-fn with_white(wx: f32, wy: f32) -> JxlColorEncoding {
-    rgb(
-        JxlWhitePoint::Chromaticity { wx, wy },
-        JxlPrimaries::SRGB,
-        JxlTransferFunction::SRGB,
-    )
-}
-
-fn with_gamma(g: f32) -> JxlColorEncoding {
-    rgb(
-        JxlWhitePoint::D65,
-        JxlPrimaries::SRGB,
-        JxlTransferFunction::Gamma(g),
-    )
-}
-
-// The primaries of SRGB with red put for green too.
-fn red_for_green() -> JxlColorEncoding {
-    let p = JxlPrimaries::SRGB.to_xy_coords();
-    let twice = JxlPrimaries::Chromaticities {
-        rx: p.rx,
-        ry: p.ry,
-        gx: p.rx,
-        gy: p.ry,
-        bx: p.bx,
-        by: p.by,
-    };
-    rgb(JxlWhitePoint::D65, twice, JxlTransferFunction::SRGB)
-}
-
-fn infinite_gamma() -> JxlColorEncoding {
-    with_gamma(numbers::f32_from_bits(0x7f80_0000))
-}
-
-// The word that the last four of n bytes make.
-fn last_word(bytes: &[u8], n: usize) -> u32 {
-    words::read_u32_be(bytes, std::num::wrapping_sub_usize(n, 4))
-}
-
-// The text of an infinite gamma ends in ginf.
-fn infinite_text() -> bool {
-    let text = text::get_color_encoding_description(infinite_gamma());
-    let n = text.len;
-    let bytes = text.bytes;
-    last_word(&bytes, n) == 0x6769_6e66
-}
-
-// Its number is 0: the curve is the last element, and its number the last four bytes.
-fn infinite_number() -> bool {
-    let mut out = [0u8; 1300];
-    let n = answer(infinite_gamma(), &mut out);
-    100 < n && n < REFUSED && last_word(&out, n as usize) == 0
-}
-
-fn example(i: usize) -> JxlColorEncoding {
-    match i {
-        0 => with_white(0.0, 1.0),
-        1 => gray(0.3, 0.0),
-        2 => with_white(0.3, 0.0),
-        3 => gray(0.0, 1e-12),
-        4 => red_for_green(),
-        5 => with_gamma(0.0),
-        6 => with_gamma(1.0 / 32768.0),
-        _ => rgb(
-            JxlWhitePoint::D65,
-            JxlPrimaries::SRGB,
-            JxlTransferFunction::SRGB,
-        ),
-    }
-}
-
-// The length or the refusal of each.
-fn expected(i: usize) -> u32 {
-    match i {
-        0 => 544,
-        1 => 3,
-        2 => 4,
-        3 => 7,
-        4 => 6,
-        5 | 6 => 8,
-        _ => 9,
-    }
-}
-
-// Whether an example is answered as 01 says; the last into an output that is one byte too short.
-fn example_holds(i: usize) -> bool {
-    let mut space = [0u8; 1300];
-    let room = if i < 7 { 1300 } else { 503 };
-    answer(example(i), front(&mut space, room)) == told(expected(i))
-}
-
-// How many of the nine hold.
-fn holding() -> u64 {
-    let mut n = 0u64;
-    for i in 0..8 {
-        if example_holds(i) {
-            n = std::num::wrapping_add_u64(n, 1);
+fn put(out: &mut [u8], at: usize, bytes: &[u8]) -> usize {
+    if at <= out.len() {
+        if bytes.len() <= out.len() - at {
+            return buffer::put_bytes(out, at, bytes);
         }
     }
-    if infinite_text() && infinite_number() {
-        n = std::num::wrapping_add_u64(n, 1);
+    0
+}
+
+fn put_word(out: &mut [u8], at: usize, value: u32) {
+    words::write_u32_be(out, at, value);
+}
+
+fn put_two(out: &mut [u8], at: usize, first: u32, second: u32) -> usize {
+    put_word(&mut *out, at, first);
+    put_word(out, wrapping_add_usize(at, 4), second);
+    wrapping_add_usize(at, 8)
+}
+
+fn put_digest(out: &mut [u8], at: usize, bytes: &[u8]) -> usize {
+    let digest = md5::compute_md5(bytes);
+    put(out, at, &digest)
+}
+
+// A number, and the MD5 of bytes.
+fn put_number_and_digest(out: &mut [u8], at: usize, number: usize, bytes: &[u8]) -> usize {
+    put_word(&mut *out, at, (number % 4294967296) as u32);
+    put_digest(out, wrapping_add_usize(at, 4), bytes)
+}
+
+// A status, and the nine numbers of a matrix, row by row.
+fn put_matrix(out: &mut [u8], start: usize, status: u32, m: [[f32; 3]; 3]) {
+    let numbers = icc_matrix::rows(m);
+    put_word(&mut *out, start, status);
+    let mut at = start;
+    for i in 0..9 {
+        at = wrapping_add_usize(at, 4);
+        put_word(&mut *out, at, numbers::f32_to_bits(numbers[i]));
     }
-    n
+}
+
+// ---- the leaves
+
+fn float(input: &[u8], at: usize) -> f32 {
+    numbers::f32_from_bits(read_u32_be(input, at))
+}
+
+// f: a float; 0 and its fixed number, or 1 where it is out of range.
+fn fixed(input: &[u8], out: &mut [u8]) -> usize {
+    match numbers::to_s15_fixed_16(float(input, 0)) {
+        S15Fixed16::Number(value) => put_two(out, 0, 0, numbers::i32_to_bits(value)),
+        S15Fixed16::OutOfRange => put_two(out, 0, 1, 0),
+    }
+}
+
+// n: an f64; the f32 that it narrows to.
+fn narrowed(input: &[u8], out: &mut [u8]) -> usize {
+    let bits = read_u32_be(input, 0) as u64 * 4294967296 + read_u32_be(input, 4) as u64;
+    let narrow = numbers::f64_to_f32(numbers::f64_from_bits(bits));
+    put_word(out, 0, numbers::f32_to_bits(narrow));
+    4
+}
+
+// t: a float; its text of seven decimals.
+fn decimals(input: &[u8], out: &mut [u8]) -> usize {
+    let text = decimal::seven_decimals(float(input, 0));
+    let bytes = text.bytes;
+    put(out, 0, part(&bytes, 0, text.len))
+}
+
+// c: a white and primaries; the adaptation to D50 and the RGB matrix. A matrix that is refused stays zero.
+fn columns(input: &[u8], out: &mut [u8]) -> usize {
+    let white = WhiteXy {
+        wx: float(input, 0),
+        wy: float(input, 4),
+    };
+    let primaries = PrimariesXy {
+        rx: float(input, 8),
+        ry: float(input, 12),
+        gx: float(input, 16),
+        gy: float(input, 20),
+        bx: float(input, 24),
+        by: float(input, 28),
+    };
+    let mut chad = [[0.0f32; 3]; 3];
+    let adapted = match adaptation::chad_matrix(white, &mut chad) {
+        Adaptation::Adapted => 0,
+        Adaptation::InvalidWhitePoint => 4,
+    };
+    let mut rgb = [[0.0f32; 3]; 3];
+    let converted = match colorimetry::create_icc_rgb_matrix(primaries, white, &mut rgb) {
+        Conversion::Converted => 0,
+        Conversion::InvalidWhitePoint => 4,
+        Conversion::MatrixInversionFailed => 6,
+    };
+    put_matrix(&mut *out, 0, adapted, chad);
+    put_matrix(out, 40, converted, rgb);
+    80
+}
+
+// g: a gray white; 0 and its XYZ, or 3.
+fn gray_white(input: &[u8], out: &mut [u8]) -> usize {
+    let white = WhiteXy {
+        wx: float(input, 0),
+        wy: float(input, 4),
+    };
+    match white_point::cie_xyz_from_white_cie_xy(white) {
+        WhiteXyz::Xyz { x, y, z } => {
+            put_two(&mut *out, 0, 0, numbers::f32_to_bits(x));
+            put_two(out, 8, numbers::f32_to_bits(y), numbers::f32_to_bits(z))
+        }
+        WhiteXyz::InvalidWhitePointY => {
+            put_word(out, 0, 3);
+            4
+        }
+    }
+}
+
+// ---- reader and finder
+
+// Whether the finder hands back the element that a line of the tag table names.
+fn finds(file: &[u8], line: usize) -> bool
+    requires { ⌜ line ≤ 1000000 ⌝ }
+{
+    let signature = [
+        byte_at(file, line),
+        byte_at(file, line + 1),
+        byte_at(file, line + 2),
+        byte_at(file, line + 3),
+    ];
+    let offset = read_u32_be(file, line + 4) as usize;
+    let size = read_u32_be(file, line + 8) as usize;
+    same_bytes(reader::find(file, signature), part(file, offset, size))
+}
+
+// Whether the finder finds each element of the tag table, and nothing for `mluc`, which begins an element and is no tag.
+fn finds_all(file: &[u8]) -> bool {
+    let tags = (read_u32_be(file, 128) % 1000) as usize;
+    for i in 0..tags {
+        if !finds(file, 132 + 12 * i) {
+            return false;
+        }
+    }
+    let absent = reader::find(file, [b'm', b'l', b'u', b'c']);
+    absent.len() == 0
+}
+
+// The single numbers of the reader's answer, in their order: eight before `chad` and columns, one after.
+fn single_numbers(r: Reading) -> [u32; 9] {
+    [
+        r.refusal,
+        r.kind,
+        r.intent,
+        r.curve,
+        numbers::i32_to_bits(r.gamma),
+        r.cicp,
+        numbers::i32_to_bits(r.white_x),
+        numbers::i32_to_bits(r.white_z),
+        (r.letters % 65536) as u32,
+    ]
+}
+
+fn put_three(out: &mut [u8], i: usize, single: u32, chad: u32, column: u32)
+    requires { ⌜ i ≤ 8 ⌝ }
+{
+    put_word(&mut *out, if i < 8 { 4 * i } else { 104 }, single);
+    put_word(&mut *out, 32 + 4 * i, chad);
+    put_word(out, 68 + 4 * i, column);
+}
+
+fn put_plan(out: &mut [u8], single: [u32; 9], chad: [i32; 9], columns: [i32; 9]) {
+    for i in 0..9 {
+        let column = numbers::i32_to_bits(columns[i]);
+        put_three(
+            &mut *out,
+            i,
+            single[i],
+            numbers::i32_to_bits(chad[i]),
+            column,
+        );
+    }
+}
+
+// r: a file; the reader's answer. The elements of an accepted file are found; of a refused one none is.
+fn reading(file: &[u8], out: &mut [u8]) -> usize {
+    let r = reader::read(file);
+    let text = r.text;
+    let end = put(&mut *out, 108, part(&text, 0, r.letters));
+    let chad = r.chad;
+    let columns = r.columns;
+    put_plan(out, single_numbers(r), chad, columns);
+    let found = if r.refusal == 0 {
+        finds_all(file)
+    } else {
+        let none = reader::find(file, [b'd', b'e', b's', b'c']);
+        none.len() == 0
+    };
+    if found { end } else { 0 }
+}
+
+// ---- the writer
+
+// The length and the MD5 of the text.
+fn put_text(out: &mut [u8], at: usize, e: JxlColorEncoding) -> usize {
+    let text = text::get_color_encoding_description(e);
+    let bytes = text.bytes;
+    put_number_and_digest(out, at, text.len, part(&bytes, 0, text.len))
+}
+
+// The length or the refusal, the MD5 of the whole output, and the text. What is written is read, and its elements are found.
+fn written(e: JxlColorEncoding, capacity: usize, out: &mut [u8]) -> usize {
+    let mut space = [UNTOUCHED; 1300];
+    let number = match writer::maybe_create_profile(e, lent(&mut space, capacity)) {
+        Profile::Written(n) => n as usize,
+        Profile::Refused(k) => k as usize,
+    };
+    let text = put_number_and_digest(&mut *out, 0, number, part(&space, 0, capacity));
+    let end = put_text(out, text, e);
+    if finds_all(part(&space, 0, number)) {
+        end
+    } else {
+        0
+    }
+}
+
+// e: a section, the length of the output, and the bytes of an entry of that section.
+fn encoding(input: &[u8], out: &mut [u8]) -> usize {
+    let entry = part(input, 5, wrapping_sub_usize(input.len(), 5));
+    let code = match byte_at(input, 0) {
+        1 => job_entry::gray_encoding(entry),
+        2 => job_entry::rgb_encoding(entry),
+        _ => job_entry::xyb_encoding(entry),
+    };
+    match code {
+        EncodingCode::Known(e) => written(e, read_u32_be(input, 1) as usize, out),
+        EncodingCode::Unknown => 0,
+    }
+}
+
+// ---- jobs
+
+// An output of a job, its profiles or its listing: the length or the refusal.
+fn output(profiles: bool, job: &[u8], space: &mut [u8]) -> usize {
+    if profiles {
+        match job_output::profiles(job, space) {
+            Output::Written(n) => n,
+            Output::Refused(k) => k as usize,
+        }
+    } else {
+        match job_output::listing(job, space) {
+            Output::Written(n) => n,
+            Output::Refused(k) => k as usize,
+        }
+    }
+}
+
+// The answer for a space that is one byte too short, and the MD5 of that space; then the same for one of the right length.
+fn put_output(out: &mut [u8], at: usize, profiles: bool, job: &[u8], space: &mut [u8]) -> usize {
+    let n = space.len();
+    let short = lent(&mut *space, wrapping_sub_usize(n, 1));
+    let refused = output(profiles, job, &mut *short);
+    let next = put_number_and_digest(&mut *out, at, refused, short);
+    let length = output(profiles, job, &mut *space);
+    put_number_and_digest(out, next, length, space)
+}
+
+// The section and the place of an entry; a refusal stands for the section.
+fn entry_words(answer: EntryAnswer) -> [u32; 2] {
+    match answer {
+        EntryAnswer::Is(entry) => [entry.section, entry.place],
+        EntryAnswer::Absent => [0, 0],
+        EntryAnswer::Refused(k) => [k, 0],
+    }
+}
+
+// The i-th entry by itself: its section and place, and the length or refusal of its profile. Answers the length, if the profile stands at `done` in
+// all.
+fn put_entry(out: &mut [u8], at: usize, job: &[u8], i: usize, all: &[u8], done: usize) -> usize {
+    let entry = entry_words(job::entry(job, i));
+    let mut space = [UNTOUCHED; MAX_WRITTEN];
+    let number = match job_output::profile(job, i, &mut space) {
+        JobProfile::Written(n) => n,
+        JobProfile::Absent => 0,
+        JobProfile::Refused(k) => k,
+    };
+    let next = put_two(&mut *out, at, entry[0], entry[1]);
+    put_word(out, next, number);
+    let n = number as usize;
+    if 100 < n && same_bytes(part(&space, 0, n), part(all, done, n)) {
+        n
+    } else {
+        0
+    }
+}
+
+// The entries of a job and one past the last; 0 where all does not hold their profiles.
+fn put_entries(out: &mut [u8], start: usize, job: &[u8], entries: u32, all: &[u8]) -> usize {
+    let n = entries as usize + 1;
+    let mut at = start;
+    let mut done = 0usize;
+    for i in 0..n {
+        done = wrapping_add_usize(done, put_entry(&mut *out, at, job, i, all, done));
+        at = wrapping_add_usize(at, 12);
+    }
+    if done == all.len() { at } else { 0 }
+}
+
+fn put_listing(out: &mut [u8], at: usize, job: &[u8]) -> usize {
+    let mut space = [UNTOUCHED; MOST_LISTING];
+    let n = job_output::listing_length(job);
+    let next = put_output(&mut *out, at, false, job, lent(&mut space, n));
+    put(out, next, part(&space, 0, n))
+}
+
+// The refusal or 0, and the number of entries.
+fn job_words(answer: JobAnswer) -> [u32; 2] {
+    match answer {
+        JobAnswer::Entries(n) => [0, n],
+        JobAnswer::Refused(k) => [k, 0],
+    }
+}
+
+// j: a job; its refusal and the number of its entries, its profiles, its entries one by one, its listing.
+fn job(job: &[u8], out: &mut [u8]) -> usize {
+    let first = job_words(job::entries(job));
+    let profiles = put_two(&mut *out, 0, first[0], first[1]);
+    let mut space = room();
+    let n = job_output::profiles_length(job);
+    let entries = put_output(&mut *out, profiles, true, job, lent(&mut space, n));
+    let listing = put_entries(&mut *out, entries, job, first[1], part(&space, 0, n));
+    put_listing(out, listing, job)
+}
+
+// ---- the list
+
+// What a hexadecimal digit counts; 16 for any other letter.
+fn digit(b: u8) -> u8 {
+    match b {
+        b'0'..=b'9' => b - b'0',
+        b'a'..=b'f' => b - b'a' + 10,
+        _ => 16,
+    }
+}
+
+// A record: how many bytes its input and its answer have, and where the next line begins; 0 where the line is malformed or has no end.
+struct Record {
+    input: usize,
+    answer: usize,
+    next: usize,
+}
+
+// From the numbers of digits. A digit too many counts as a byte, which no answer has.
+fn measured(input: usize, all: usize, next: usize) -> Record {
+    Record {
+        input: input / 2,
+        answer: wrapping_add_usize(wrapping_sub_usize(all, input), 1) / 2,
+        next,
+    }
+}
+
+// A byte takes its two digits one after the other.
+fn put_digit(bytes: &mut [u8], n: usize, d: u8) {
+    let at = n / 2;
+    if at < bytes.len() {
+        bytes[at] = bytes[at] % 16 * 16 | d;
+    }
+}
+
+// Decodes the fields of a line, from a place past its letter on.
+fn record_at(list: &[u8], start: usize, bytes: &mut [u8]) -> Record {
+    let mut at = start;
+    let mut n = 0usize;
+    let mut input = 0usize;
+    while at < list.len() {
+        let letter = list[at];
+        at += 1;
+        let d = digit(letter);
+        if d < 16 {
+            put_digit(&mut *bytes, n, d);
+            n = wrapping_add_usize(n, 1);
+        } else if letter == b'\n' {
+            return measured(input, n, at);
+        } else if letter == b'=' {
+            input = n;
+        } else if letter != b' ' {
+            return measured(0, 0, 0);
+        }
+    }
+    measured(0, 0, 0)
+}
+
+// The answer of the crates to an input: how many bytes it has, or 0 where a check of the program fails.
+fn answer(letter: u8, input: &[u8], out: &mut [u8]) -> usize {
+    match letter {
+        b'm' | b'b' => put_digest(out, 0, input),
+        b'f' => fixed(input, out),
+        b'n' => narrowed(input, out),
+        b't' => decimals(input, out),
+        b'c' => columns(input, out),
+        b'g' => gray_white(input, out),
+        b'e' => encoding(input, out),
+        b'r' => reading(input, out),
+        b'j' => job(input, out),
+        _ => 0,
+    }
+}
+
+// ---- counting
+
+// The places of a tally: a letter for how many records of the type were tried, its capital for how many matched; a refusal for how often it was the
+// answer of a matched record; and the first line that differs.
+const PLACES: usize = 256;
+
+const FIRST: usize = 255;
+
+fn mark(tally: &mut [u64; PLACES], at: u8) {
+    let place = at as usize;
+    tally[place] = wrapping_add_u64(tally[place], 1);
+}
+
+fn count(tally: &mut [u64; PLACES], letter: u8, matched: bool, refusal: u32, line: u64) {
+    mark(&mut *tally, letter);
+    if matched {
+        mark(&mut *tally, letter % 32 + 64);
+        if letter == b'e' || letter == b'r' || letter == b'j' {
+            if refusal < 44 {
+                mark(tally, refusal as u8);
+            }
+        }
+    } else if tally[FIRST] == 0 {
+        tally[FIRST] = line;
+    }
+}
+
+// Goes over the records of a list, which begin at `start`, in line 2.
+fn replay(list: &[u8], start: usize, tally: &mut [u64; PLACES]) {
+    let mut bytes = io::large_buffer();
+    let mut out = io::large_buffer();
+    let mut at = start;
+    let mut line = 1u64;
+    while at < list.len() {
+        line = wrapping_add_u64(line, 1);
+        let r = record_at(list, at + 1, &mut bytes);
+        let n = answer(list[at], part(&bytes, 0, r.input), &mut out);
+        let matched = n != 0 && same_bytes(part(&out, 0, n), part(&bytes, r.input, r.answer));
+        count(&mut *tally, list[at], matched, read_u32_be(&out, 0), line);
+        if r.next <= at {
+            return;
+        }
+        at = r.next;
+    }
 }
 
 // ---- the program
 
-// More records than the list can hold: the bound that ends the loop.
-const MOST: usize = 1000000;
-
-// The places of a tally, in the order in which they are printed: for each type of record how many were matched and how many were tried; the
-// examples that hold; the first record that was not matched.
-const EXAMPLES: usize = 16;
-
-const FIRST: usize = 17;
-
-const PLACES: usize = 18;
-
-fn mark(tally: &mut [u64; PLACES], at: usize) {
-    if at < PLACES {
-        tally[at] = std::num::wrapping_add_u64(tally[at], 1);
+// A byte of a text. One after a # names a place of the tally, whose number is printed for both.
+fn print_byte(text: &[u8], i: usize, tally: &[u64; PLACES]) {
+    let b = byte_at(text, i);
+    if byte_at(text, wrapping_sub_usize(i, 1)) == b'#' {
+        io::print_decimal(STDOUT_FILENO, tally[b as usize]);
+    } else if b != b'#' {
+        io::write_all(STDOUT_FILENO, part(text, i, 1));
     }
 }
 
-fn count(tally: &mut [u64; PLACES], kind: usize, ok: bool, record: usize)
-    requires { ⌜ kind ≤ 8 ⌝ }
-{
-    mark(&mut *tally, kind * 2 + 1);
-    if ok {
-        mark(tally, kind * 2);
-    } else if tally[FIRST] == 0 {
-        tally[FIRST] = record as u64;
-    }
-}
-
-// Goes over the list.
-fn replay(tally: &mut [u64; PLACES]) {
-    let mut line = [0u8; 256];
-    for i in 0..MOST {
-        let kind = next(&mut line);
-        if 8 <= kind {
-            return;
-        }
-        count(&mut *tally, kind, matches(kind, &line), i + 1);
-    }
-}
-
-fn print_number(tally: &[u64; PLACES], at: usize) {
-    if at < PLACES {
-        io::print_decimal(STDOUT_FILENO, tally[at]);
-    }
-}
-
-// Prints a text, with the next number of the tally for each #.
 fn print_tally(text: &[u8], tally: &[u64; PLACES]) {
-    let mut k = 0usize;
     for i in 0..text.len() {
-        if text[i] == b'#' {
-            print_number(tally, k);
-            k = std::num::wrapping_add_usize(k, 1);
-        } else {
-            let letter = [text[i]];
-            io::write_all(STDOUT_FILENO, &letter);
-        }
+        print_byte(text, i, tally);
     }
+}
+
+// Space for the list, or for the profiles of a job. The `ensures` gives only the length, so that no proof spells the bytes out.
+fn room() -> [u8; 1650000]
+    ensures { λ r. ⌜ 1650000 ≡ length r ⌝ }
+{
+    [UNTOUCHED; 1650000]
 }
 
 fn main() {
+    let mut space = room();
     let mut tally = [0u64; PLACES];
-    replay(&mut tally);
-    tally[EXAMPLES] = holding();
+    let n = io::read_full(os::open_read(b"list"), &mut space);
+    let list = part(&space, 0, n);
+    if same_bytes(
+        part(list, 0, 54),
+        b"merqyduk vectors, format 2, seed 1, jxl-rs 9b3c1af91e\n",
+    ) {
+        replay(list, 54, &mut tally);
+    } else {
+        tally[FIRST] = 1;
+    }
     print_tally(
-        b"m # of #\nb # of #\nf # of #\nn # of #\nt # of #\nc # of #\ng # of #\ne # of #\nexamples # of 9\nfirst record that differs #\n",
+        b"m #M of #m\nb #B of #b\nf #F of #f\nn #N of #n\nt #T of #t\nc #C of #c\ng #G of #g\ne #E of #e\nr #R of #r\nj #J of #j\n",
         &tally,
     );
+    print_tally(
+        b"refused 1: #\x01\nrefused 2: #\x02\nrefused 3: #\x03\nrefused 4: #\x04\nrefused 5: #\x05\nrefused 6: #\x06\nrefused 7: #\x07\nrefused 8: #\x08\nrefused 9: #\x09\nrefused 21: #\x15\nrefused 22: #\x16\nrefused 23: #\x17\nrefused 24: #\x18\nrefused 25: #\x19\nrefused 26: #\x1a\nrefused 27: #\x1b\nrefused 28: #\x1c\nrefused 41: #\x29\nrefused 42: #\x2a\nrefused 43: #\x2b\n",
+        &tally,
+    );
+    print_tally(b"first line that differs #\xff\n", &tally);
 }

@@ -1,43 +1,82 @@
--- The line keeps its length. The measure is the records that are left. Assumes nothing.
+-- The two buffers keep their lengths. The measure is what is left of the list. Assumes nothing.
 use mathlib.Core.Path.{_≡_}
-use Prim.Native.Nat.{_-_}
 use lib.ListN.{length}
+use Prim.Native.Nat.{_-_}
 use borrow.Author.Needs.{needs}
 use Rattle.vectors.proofs.replay.Statement.{statement}
 use Rattle.vectors.proofs.replay.Tie as tie
 
 abbrev Inv-loop : tie.InvT-loop
-Inv-loop tally₀ line₀ i₀ tally line i = length line ≡ 256
+Inv-loop list start tally₀ bytes₀ out₀ at₀ line₀ tally bytes out at line = (length bytes ≡ 65536) × (length out ≡ 65536)
 
 abbrev μ-loop : tie.MeasureT-loop
-μ-loop tally₀ line₀ i₀ tally line i = 1000000 - i
+μ-loop list start tally₀ bytes₀ out₀ at₀ line₀ tally bytes out at line = length list - at
+
+large-buffer-requires : tie.Need-large-buffer-requires Inv-loop μ-loop
+large-buffer-requires c κs = search needs
+
+large-buffer-requires-2 : tie.Need-large-buffer-requires-2 Inv-loop μ-loop
+large-buffer-requires-2 c κs = search needs
 
 loop-holds : tie.Need-loop-holds Inv-loop μ-loop
 loop-holds c = search needs
 
-slice-aggregate-next : tie.Need-slice-aggregate-next Inv-loop μ-loop
-slice-aggregate-next c = search needs
+wrapping-add-u64-requires : tie.Need-wrapping-add-u64-requires Inv-loop μ-loop
+wrapping-add-u64-requires c κs = search needs
 
-next-requires : tie.Need-next-requires Inv-loop μ-loop
-next-requires c κs = search needs
+add-record-at : tie.Need-add-record-at Inv-loop μ-loop
+add-record-at c = search needs
 
-returns : tie.Need-returns Inv-loop μ-loop
-returns c = search needs
+slice-aggregate-record-at : tie.Need-slice-aggregate-record-at Inv-loop μ-loop
+slice-aggregate-record-at c = search needs
 
-slice-aggregate-matches : tie.Need-slice-aggregate-matches Inv-loop μ-loop
-slice-aggregate-matches c = search needs
+record-at-requires : tie.Need-record-at-requires Inv-loop μ-loop
+record-at-requires c κs = search needs
 
-matches-requires : tie.Need-matches-requires Inv-loop μ-loop
-matches-requires c κs = search needs
+shared-slice-read-answer : tie.Need-shared-slice-read-answer Inv-loop μ-loop
+shared-slice-read-answer c = search needs
 
-add-count : tie.Need-add-count Inv-loop μ-loop
-add-count c = search needs
+slice-aggregate-part : tie.Need-slice-aggregate-part Inv-loop μ-loop
+slice-aggregate-part c = search needs
+
+part-requires : tie.Need-part-requires Inv-loop μ-loop
+part-requires c κs = search needs
+
+slice-aggregate-answer : tie.Need-slice-aggregate-answer Inv-loop μ-loop
+slice-aggregate-answer c = search needs
+
+answer-requires : tie.Need-answer-requires Inv-loop μ-loop
+answer-requires c κs = search needs
+
+slice-aggregate-part-2 : tie.Need-slice-aggregate-part-2 Inv-loop μ-loop
+slice-aggregate-part-2 c = search needs
+
+part-requires-2 : tie.Need-part-requires-2 Inv-loop μ-loop
+part-requires-2 c κs = search needs
+
+slice-aggregate-part-3 : tie.Need-slice-aggregate-part-3 Inv-loop μ-loop
+slice-aggregate-part-3 c = search needs
+
+part-requires-3 : tie.Need-part-requires-3 Inv-loop μ-loop
+part-requires-3 c κs = search needs
+
+same-bytes-requires : tie.Need-same-bytes-requires Inv-loop μ-loop
+same-bytes-requires c κs = search needs
+
+shared-slice-read-count : tie.Need-shared-slice-read-count Inv-loop μ-loop
+shared-slice-read-count c = search needs
+
+slice-aggregate-read-u32-be : tie.Need-slice-aggregate-read-u32-be Inv-loop μ-loop
+slice-aggregate-read-u32-be c = search needs
+
+read-u32-be-requires : tie.Need-read-u32-be-requires Inv-loop μ-loop
+read-u32-be-requires c κs = search needs
 
 count-requires : tie.Need-count-requires Inv-loop μ-loop
 count-requires c κs = search needs
 
-add-i : tie.Need-add-i Inv-loop μ-loop
-add-i c = search needs
+returns : tie.Need-returns Inv-loop μ-loop
+returns c = search needs
 
 loop-less : tie.Need-loop-less Inv-loop μ-loop
 loop-less c = search needs
@@ -54,15 +93,28 @@ replay-spec =
     (tie.spec
     Inv-loop
     μ-loop
+    large-buffer-requires
+    large-buffer-requires-2
     loop-holds
-    slice-aggregate-next
-    next-requires
-    returns
-    slice-aggregate-matches
-    matches-requires
-    add-count
+    wrapping-add-u64-requires
+    add-record-at
+    slice-aggregate-record-at
+    record-at-requires
+    shared-slice-read-answer
+    slice-aggregate-part
+    part-requires
+    slice-aggregate-answer
+    answer-requires
+    slice-aggregate-part-2
+    part-requires-2
+    slice-aggregate-part-3
+    part-requires-3
+    same-bytes-requires
+    shared-slice-read-count
+    slice-aggregate-read-u32-be
+    read-u32-be-requires
     count-requires
-    add-i
+    returns
     loop-less
     loop-again
     returns-2)

@@ -2,11 +2,11 @@
 use Prim.Native.Nat.{ℕ}
 use mathlib.Core.Path.{sym}
 use lib.ListN.{length-replicate}
-use Rattle.job_vectors.proofs.room.Statement.{statement}
-use Rattle.job_vectors.proofs.room.Tie as tie
+use Rattle.vectors.proofs.room.Statement.{statement}
+use Rattle.vectors.proofs.room.Tie as tie
 
 returns : tie.Need-returns
-returns c = sym (length-replicate {A = ℕ} 918000 165)
+returns c = sym (length-replicate {A = ℕ} 1650000 165)
 
 pub room-spec : {M : Type 1} → statement M
 room-spec = tie.close (tie.spec returns)
