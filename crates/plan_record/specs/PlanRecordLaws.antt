@@ -1,5 +1,5 @@
 -- Numbers in a C struct read back, and the bytes of a plan by value. Assumes nothing.
-use Prim.Native.Nat.{ℕ, zero, suc, _+_, _*_, _-_, _/_, _%_, _^_, _<_}
+use Prim.Native.Nat.{ℕ, _+_, _*_, _/_, _%_, _^_, _<_}
 use mathlib.Core.Path.{_≡_, refl, ap, ap₂, sym, _∙_}
 use mathlib.Core.List.{List, [], _∷_, _++_, append-assoc, append-nil, map}
 use native.Mathlib.Omega.{arith}
@@ -8,7 +8,7 @@ use lib.ListN.{length, take, drop, length-append, length-map}
 use mir.Syntax.{w32}
 use mir.Val.{SFits}
 use Rattle.buffer.specs.All.{All, none, more}
-use Rattle.words.specs.Words.{be32, word32, twosComplement32, signed32}
+use Rattle.words.specs.Words.{twosComplement32, signed32}
 use Rattle.words.specs.WordsLaws.{word32-be32, number-written}
 use Rattle.profile.specs.Plan.{maxLetters}
 use Rattle.profile.specs.TagTypes.{join}

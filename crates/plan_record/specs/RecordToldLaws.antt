@@ -1,5 +1,5 @@
 -- What a struct can hold is read back from its bytes, and it can hold every plan. Assumes nothing.
-use Prim.Native.Nat.{ℕ, _+_, _*_, _-_, _^_, _≤_, _<_}
+use Prim.Native.Nat.{ℕ, _+_, _*_, _≤_}
 use mathlib.Core.Path.{_≡_, refl, ap, ap₂, sym, _∙_}
 use mathlib.Core.Logic.{inl, inr}
 use mathlib.Core.List.{List, [], _∷_, _++_, append-assoc, map}
@@ -13,7 +13,7 @@ use mir.Val.{SFits}
 use Rattle.buffer.specs.All.{All, none, more}
 use Rattle.buffer.specs.AllLaws.{All-append, All-map, All-replicate}
 use Rattle.words.specs.Words.{twosComplement32, signed32}
-use Rattle.profile.specs.Plan.{Plan, Content, gray, rgb, xyb, GoodCicp, GoodContent, GoodCurve, GoodIntent, GoodText, Valid, Wide, kindOf, maxLetters}
+use Rattle.profile.specs.Plan.{Plan, Content, gray, rgb, xyb, GoodCicp, GoodContent, GoodCurve, GoodIntent, Valid, kindOf, maxLetters}
 use Rattle.profile.specs.Numbers.{numbersFor, numbersOf, textFor, textOf}
 use Rattle.profile.specs.declared.Kind.{Kind}
 use Rattle.profile.specs.declared.Kind.the-variants.{Gray, Rgb, Xyb}
@@ -27,9 +27,9 @@ use Rattle.reader_spec.specs.RefusalList.{Answer, refused, accepted}
 use Rattle.reader_spec.specs.Read.{read}
 use Rattle.reader_spec.specs.Accepts.{accepts-exactly}
 use Rattle.reader_spec.specs.FileLaws.{valid-wide}
-use Rattle.reading.specs.Reading.{kindNumber, nameNumber, curveNumber, gammaNumber, cicpNumber, textArray, acceptedWith, reading}
+use Rattle.reading.specs.Reading.{kindNumber, nameNumber, curveNumber, gammaNumber, cicpNumber, textArray, reading}
 use Rattle.reading.specs.declared.Reading.{Reading}
-use Rattle.plan_record.specs.PlanRecord.{le32s, words32le, numberCount, recordNumbers, planRecord, readingOf, readingBy}
+use Rattle.plan_record.specs.PlanRecord.{le32s, numberCount, recordNumbers, planRecord, readingOf, readingBy}
 use Rattle.plan_record.specs.PlanRecordLaws.{Word, length-le32s, length-numbers, words-back, complement-word, signed-back, signeds-back}
 
 -- nine int32_t

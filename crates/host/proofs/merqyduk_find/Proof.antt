@@ -1,7 +1,5 @@
 -- By whether the finder's line has bytes (`HostLaws`). Assumes nothing.
-use Prim.Native.Nat.{ℕ}
-use mathlib.Core.Path.{_≡_, refl, ap, _∙_}
-use mathlib.Core.List.{List}
+use mathlib.Core.Path.{_≡_, ap, _∙_}
 use borrow.Author.Needs.{needs}
 use Rattle.buffer.specs.BufferLaws.{put-whole}
 use Rattle.profile.specs.Elements.{Entry}

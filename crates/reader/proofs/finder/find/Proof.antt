@@ -1,5 +1,5 @@
 -- The part that is handed back is the element of the finder's line, which lies within the file (`FinderLaws`).
-use mathlib.Core.Path.{refl, sym, _∙_}
+use mathlib.Core.Path.{refl}
 use native.Mathlib.Nat.{add-sub-cancel-left}
 use native.Mathlib.Omega.{arith}
 use borrow.Author.Needs.{needs}
