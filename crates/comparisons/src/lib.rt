@@ -90,7 +90,7 @@ pub fn compared(file: &[u8], plan: Numbers, text: &[u8]) -> Comparison
     ensures { λ r. ⌜ r .elements ≡ same (drop (start (Shapes.slotsOf (Shapes.shape (planOf plan (now (text .entry)))))) (now (file .entry))) (drop (start (Shapes.slotsOf (Shapes.shape (planOf plan (now (text .entry)))))) (layout (planOf plan (now (text .entry))))) ⌝ }
     ensures { λ r. ⌜ r .id ≡ same (take idSize (drop idAt (now (file .entry)))) (take idSize (drop idAt (layout (planOf plan (now (text .entry)))))) ⌝ }
 {
-    let at = fields::elements_start(file);
+    let at = table_lines::elements_start(file);
     let mut laid = [0u8; MAX_LENGTH];
     let size = file.len();
     put_blank_front(&mut laid, file, at);

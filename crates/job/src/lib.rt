@@ -106,14 +106,13 @@ fn section_counts(job: &[u8]) -> Counts
 
 // ---- entries
 
-fn answered(section: u32, place: usize, code: EncodingCode) -> EntryAnswer
-    requires { ⌜ place ≤ 256 ⌝ }
+fn answered(section: u32, place: u32, code: EncodingCode) -> EntryAnswer
     ensures { λ r. ⌜ r ≡ toldOf section place (knownEncoding code) ⌝ }
 {
     match code {
         EncodingCode::Known(encoding) => EntryAnswer::Is(JobEntry {
             section,
-            place: place as u32,
+            place,
             encoding,
         }),
         EncodingCode::Unknown => EntryAnswer::Refused(color_encoding::UNKNOWN),
@@ -137,7 +136,8 @@ fn entry_in(job: &[u8], section: u32, size: usize, start: usize, i: usize) -> En
     ensures { λ r. ⌜ r ≡ entryIn (now (job .entry)) section size start i ⌝ }
 {
     let at = start + i * size;
-    answered(section, i + 1, encoding_of(section, &job[at..at + size]))
+    let place = (i + 1) as u32;
+    answered(section, place, encoding_of(section, &job[at..at + size]))
 }
 
 // The i-th entry, of a job whose counts are known.

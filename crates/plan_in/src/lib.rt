@@ -1,7 +1,6 @@
 // The numbers and the text of the one plan that a file can have, each from the element that the file's own table names.
 use fields::DESC_LINE;
 use fields::GRAY_CURVE_LINE;
-use fields::line_at;
 use fields::red_line;
 use numbers::i32_from_bits;
 use profile::BT709_GAMMA;
@@ -14,6 +13,7 @@ use profile::MLUC_TEXT;
 use profile::Numbers;
 use profile::SRGB_GAMMA;
 use profile::Shape;
+use table_lines::line_at;
 use words::read_u32_be;
 ghost use mathlib.Core.Path.{_≡_};
 ghost use mathlib.Core.List.{_∷_, []};

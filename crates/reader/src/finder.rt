@@ -1,5 +1,5 @@
 // The finder: the part of a file that holds an element.
-use fields::Line;
+use table_lines::Line;
 ghost use mathlib.Core.Path.{_≡_};
 ghost use Prim.Native.Nat.{_+_};
 ghost use Rattle.reader_spec.specs.Finder as Finder;
@@ -13,7 +13,7 @@ pub fn find_line(file: &[u8], signature: [u8; 4]) -> Line
     if answer.refusal != 0 {
         return Line { offset: 0, size: 0 };
     }
-    fields::line_of(file, signature)
+    table_lines::line_of(file, signature)
 }
 
 // The caller's own part of the file that holds the element of a signature, without padding. It is empty where the reader refuses the file, and

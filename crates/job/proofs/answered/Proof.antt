@@ -6,9 +6,6 @@ use Rattle.job.proofs.answered.Tie as tie
 enum-known-code : tie.Need-enum-known-code
 enum-known-code c = search needs
 
-cast-t6 : tie.Need-cast-t6
-cast-t6 c = search needs
-
 enum-told : tie.Need-enum-told
 enum-told c = search needs
 
@@ -19,4 +16,4 @@ returns-2 : tie.Need-returns-2
 returns-2 c = search needs
 
 pub answered-spec : {M : Type 1} → statement M
-answered-spec = tie.close (tie.spec enum-known-code cast-t6 enum-told returns returns-2)
+answered-spec = tie.close (tie.spec enum-known-code enum-told returns returns-2)

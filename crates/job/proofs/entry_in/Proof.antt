@@ -11,8 +11,11 @@ mul-at c = search needs
 add-at : tie.Need-add-at
 add-at c = search needs
 
-add-answered : tie.Need-add-answered
-add-answered c = search needs
+add-place : tie.Need-add-place
+add-place c = search needs
+
+cast-place : tie.Need-cast-place
+cast-place c = search needs
 
 add-encoding-of : tie.Need-add-encoding-of
 add-encoding-of c = search needs
@@ -43,7 +46,8 @@ entry-in-spec =
     (tie.spec
     mul-at
     add-at
-    add-answered
+    add-place
+    cast-place
     add-encoding-of
     sub-encoding-of
     part-encoding-of-start

@@ -1,8 +1,8 @@
 -- The number of tags is the word at its place.
 use borrow.Author.Needs.{needs}
 use Rattle.reader_spec.specs.Table.{tagsOf}
-use Rattle.fields.proofs.tag_count.Statement.{statement}
-use Rattle.fields.proofs.tag_count.Tie as tie
+use Rattle.table_lines.proofs.tag_count.Statement.{statement}
+use Rattle.table_lines.proofs.tag_count.Tie as tie
 
 returns : tie.Need-returns
 unfolding tagsOf

@@ -12,8 +12,8 @@ use Rattle.reader_spec.specs.Table.{tagsOf, entriesOf, absent}
 use Rattle.reader_spec.specs.Finder.{lineOf}
 use Rattle.reader_spec.specs.LinesLaws.{linesFrom, from-first, line-in}
 use Rattle.reader_spec.specs.FinderLaws.{line-is, line-later, line-none}
-use Rattle.fields.proofs.line_of.Statement.{statement}
-use Rattle.fields.proofs.line_of.Tie as tie
+use Rattle.table_lines.proofs.line_of.Statement.{statement}
+use Rattle.table_lines.proofs.line_of.Tie as tie
 
 abbrev Inv-loop : tie.InvT-loop
 Inv-loop file signature tags i₀ i =

@@ -4,8 +4,8 @@ use native.Mathlib.Omega.{arith}
 use Rattle.profile.specs.Elements.{Entry}
 use Rattle.reader_spec.specs.LinesLaws.{line-in, line-past}
 use borrow.Author.Needs.{needs}
-use Rattle.fields.proofs.line_at.Statement.{statement}
-use Rattle.fields.proofs.line_at.Tie as tie
+use Rattle.table_lines.proofs.line_at.Statement.{statement}
+use Rattle.table_lines.proofs.line_at.Tie as tie
 
 returns : tie.Need-returns
 returns c =
