@@ -71,6 +71,8 @@ def check(document):
     path = TOP / "docs" / document
     for number, line in enumerate(path.read_text(encoding="utf-8").split("\n"), 1):
         crate = None
+        if line.count("`") % 2:
+            bad.append(f"docs/{document}:{number}: a backquote is not closed")
         for word in re.findall(r"`([^`]+)`", line):
             if crate and document == "EDITS.md" and re.fullmatch(r"\w+", word):
                 word = f"{crate}/{word}"

@@ -4,8 +4,8 @@
   docs/check_supplier.py [SRC]
 
 Each constant is worked out exactly from the decimal that the Rust has and rounded to its width, and held against the bits in the table; the bits
-must stand in the file of the definition. With SRC, the folder of the Rust's sources, each decimal must stand there too. Each right number of a case must be
-in the case's profile in conformance/encodings.txt, and the numbers of XYB in its profile there. The status is 1 if something differs.
+must stand in the file of the definition. With SRC, the folder of the Rust's sources, each decimal must stand there too. The cases must be those of
+conformance/encodings.txt. Each right number of a case must be in the case's profile there, and the numbers of XYB in its profile. The status is 1 if something differs.
 """
 
 import pathlib
@@ -102,11 +102,45 @@ def check_constants(source):
 
 
 def cases():
-    """The answers of the cases, in order."""
+    """The encodings of the cases and their answers, in order."""
     lines = (TOP / "conformance" / "encodings.txt").read_text().split("\n")
     start = lines.index(GROUP) + 1
     end = next(i for i in range(start, len(lines)) if lines[i].startswith("#"))
-    return [line.split(" = ")[1] for line in lines[start:end]]
+    return [line.split(" = ") for line in lines[start:end]]
+
+
+def float_field(text):
+    """A coordinate of the table of cases as the list has it."""
+    if re.fullmatch(r"[0-9a-f]{8}", text):
+        return text
+    return f"{bits_of(Fraction(text), 'f32'):08x}" if Fraction(text) else "00000000"
+
+
+def coordinates(text, names, count):
+    """The number of a kind and its floats: a name of these, or coordinates of one's own."""
+    if text in names:
+        return [str(names.index(text))] + count * ["00000000"]
+    return ["3"] + [float_field(part) for part in re.split("[,;] ", text)]
+
+
+def check_encodings():
+    """Holds the table of cases against the encodings of the list."""
+    listed = [encoding for encoding, _ in cases()]
+    table = list(rows(["case", "kind", "white", "primaries", "curve, intent"]))
+    if len(table) != len(listed):
+        yield f"{len(table)} cases in the table, {len(listed)} in the list"
+    for (case, kind, white, primaries, curve), encoding in zip(table, listed):
+        curve, intent = re.match(r"([\w. ]+), (\w+)", curve).groups()
+        fields = ["1200", str(("gray", "RGB").index(kind) + 1)]
+        fields += coordinates(white, ("D65", "E", "DCI"), 2)
+        fields += coordinates(primaries, ("SRGB", "BT2100", "P3"), 6) if primaries else ["0"] + 6 * ["00000000"]
+        if curve.startswith("gamma "):
+            fields += ["6", float_field(curve.removeprefix("gamma "))]
+        else:
+            fields += [str(("BT709", "Linear", "SRGB", "PQ", "DCI").index(curve)), "00000000"]
+        fields.append(str(("Perceptual", "Relative", "Saturation", "Absolute").index(intent)))
+        if " ".join(fields) != encoding:
+            yield f"{case} is {encoding} in the list, {' '.join(fields)} in the table"
 
 
 def numbers_of(profile):
@@ -122,7 +156,7 @@ def numbers_of(profile):
 
 
 def check_cases():
-    answers, count = cases(), 0
+    answers, count = [answer for _, answer in cases()], 0
     for mistake, case, number, right, _, _ in rows(["mistake", "case", "number", "right", "wrong", "lines"]):
         if not case:
             continue
@@ -166,7 +200,7 @@ def check_xyb():
 
 def main():
     source = pathlib.Path(sys.argv[1]) if len(sys.argv) > 1 else None
-    wrong = list(check_constants(source)) + list(check_cases()) + list(check_xyb())
+    wrong = list(check_constants(source)) + list(check_encodings()) + list(check_cases()) + list(check_xyb())
     for line in wrong:
         print(line)
     return 1 if wrong else 0
