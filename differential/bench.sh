@@ -1,5 +1,5 @@
 #!/bin/sh
-# Times the leaves. Needs OpenSSL's headers (libssl-dev); run compare.sh before, which builds the library.
+# Times the leaves, and the reader beside the MD5 of its file. Needs OpenSSL's headers (libssl-dev); run compare.sh before, which builds the libraries.
 #
 #   differential/bench.sh [OUT]
 set -eu
@@ -18,3 +18,5 @@ out=${1:-$here/../target/differential}
 printf '#include <openssl/md5.h>\n' | c++ -fsyntax-only -x c++ - 2>/dev/null || fail "no openssl/md5.h, install libssl-dev"
 c++ -std=c++17 -O2 -Wno-deprecated-declarations "$here/bench/leaves.cpp" "$out/port/target/staticlib/libleaves.a" -lcrypto -o "$out/leaves"
 "$out/leaves"
+c++ -std=c++11 -O2 -I"$here/../include" "$here/bench/reader.cpp" "$out/port/target/staticlib/libhost.a" "$out/port/target/staticlib/libleaves.a" -o "$out/reader"
+"$out/reader"

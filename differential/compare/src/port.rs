@@ -36,6 +36,18 @@ mod entries {
             out: *mut u8,
             len: usize,
         ) -> u32;
+        pub fn merqyduk_read(
+            file: *const u8,
+            file_len: usize,
+            plan: *mut u8,
+            plan_len: usize,
+        ) -> u32;
+        pub fn merqyduk_find(
+            file: *const u8,
+            file_len: usize,
+            signature: u32,
+            offset: *mut u32,
+        ) -> u32;
         pub fn merqyduk_job(job: *const u8, job_len: usize, entries: *mut u32) -> u32;
         pub fn merqyduk_job_profile(
             job: *const u8,
@@ -289,6 +301,18 @@ pub fn find(file: &[u8], [a, b, c, d]: [u8; 4]) -> (isize, usize) {
     unsafe { entries::leaf_find(file.as_ptr(), file.len(), a, b, c, d, &mut found) };
     let place = (found.at as isize).wrapping_sub(file.as_ptr() as isize);
     (place, found.len)
+}
+
+/// The reader into a lent record: 0, a refusal, or 9 where the record is too short.
+pub fn read_into(file: &[u8], record: &mut [u8]) -> u32 {
+    let (at, len) = (record.as_mut_ptr(), record.len());
+    unsafe { entries::merqyduk_read(file.as_ptr(), file.len(), at, len) }
+}
+
+/// The finder from C: the size, and the offset in the lent number.
+pub fn find_offset(file: &[u8], signature: [u8; 4], offset: &mut u32) -> u32 {
+    let signature = u32::from_be_bytes(signature);
+    unsafe { entries::merqyduk_find(file.as_ptr(), file.len(), signature, offset) }
 }
 
 /// The writer: a length, or a refusal number below 100.

@@ -73,6 +73,48 @@ impl Reading {
     }
 }
 
+/// The bytes of a lent record before a call, and how many the struct of C has.
+const UNTOUCHED: u8 = 0xa5;
+const RECORD: usize = 476;
+
+impl Reading {
+    /// What the call from C leaves in a record of so many bytes, and its answer.
+    fn record_due(&self, length: usize) -> (u32, Vec<u8>) {
+        let mut record = vec![UNTOUCHED; length];
+        let [refusal, kind, intent, curve, cicp] = self.codes;
+        if refusal != 0 || length < RECORD {
+            return (if refusal != 0 { refusal } else { 9 }, record);
+        }
+        let [gamma, white_x, white_z] = self.free.map(i32::cast_unsigned);
+        let first = [kind, intent, curve, gamma, cicp, white_x, white_z];
+        let nines = self.chad.iter().chain(&self.columns);
+        let numbers = first
+            .into_iter()
+            .chain(nines.map(|n| n.cast_unsigned()))
+            .chain([self.letters as u32]);
+        let bytes: Vec<u8> = numbers.flat_map(u32::to_le_bytes).chain(self.text).collect();
+        record[..RECORD].copy_from_slice(&bytes);
+        (0, record)
+    }
+}
+
+/// The call from C on records of three lengths: it answers and leaves what is due.
+fn record_differs(file: &[u8], due: &Reading) -> Option<String> {
+    for length in [RECORD + 4, RECORD, RECORD - 1] {
+        let mut record = vec![UNTOUCHED; length];
+        let found = port::read_into(file, &mut record);
+        let (expected, bytes) = due.record_due(length);
+        if found != expected || record != bytes {
+            return Some(format!(
+                "merqyduk_read into {length} bytes: expected {expected} {}, found {found} {}",
+                hex(&bytes),
+                hex(&record)
+            ));
+        }
+    }
+    None
+}
+
 /// Tries the cases and random files in turn, then random files only.
 pub fn reader(run: &mut Run) {
     let mut random = Random::new(run.seed);
@@ -169,6 +211,7 @@ fn trial(run: &mut Run, file: &[u8], met: &mut Met) {
     if expected != found {
         differences.push(format!("read: expected {expected:?}, found {found:?}"));
     }
+    differences.extend(record_differs(file, &expected));
     for signature in asked(file, answer.is_ok()) {
         // 01 leaves open where an empty part lies; the port's is at the front of the file.
         let part = reader::place(file, answer.is_ok(), signature);
@@ -178,6 +221,15 @@ fn trial(run: &mut Run, file: &[u8], met: &mut Met) {
             let name = String::from_utf8_lossy(&signature).into_owned();
             differences.push(format!(
                 "find {name:?}: expected {expected:?}, found {found:?}"
+            ));
+        }
+        let mut offset = u32::MAX;
+        let size = port::find_offset(file, signature, &mut offset);
+        let due = part.map_or((0, u32::MAX), |(place, size)| (size as u32, place as u32));
+        if (size, offset) != due {
+            differences.push(format!(
+                "merqyduk_find {signature:?}: expected {due:?}, found {:?}",
+                (size, offset)
             ));
         }
     }
