@@ -11,11 +11,12 @@ use lib.Seq.{take-at, drop-at, set-append-seam, take-append-add, drop-append-le}
 use Rattle.buffer.specs.Buffer.{put}
 use Rattle.buffer.specs.BufferLaws.{put-front, put-after}
 use Rattle.buffer.specs.Bytes.{zeros}
-use Rattle.md5.specs.Md5.{bytesOf, message, lengthBytes}
+use Rattle.words.specs.Words.{le32}
+use Rattle.md5.specs.Md5.{message, lengthBytes}
 
 -- the four bytes of a word, stored at a place of a list
 abbrev pub putWord : List ℕ → ℕ → ℕ → List ℕ
-putWord l at w = put l at (bytesOf w)
+putWord l at w = put l at (le32 w)
 
 -- d, then zeros, with 128 behind d
 marked : (d : List ℕ) → length d < 128 → set (put (zeros 128) 0 d) (length d) 128 ≡ d ++ 128 ∷ zeros (127 - length d)
@@ -26,7 +27,7 @@ marked d h =
 -- d, 128, zeros, and two words that end at e
 laid : (d : List ℕ) (lo hi e : ℕ) → length d + 9 ≤ e → e ≤ 128
     → take e (putWord (putWord (d ++ 128 ∷ zeros (127 - length d)) (e - 8) lo) (e - 4) hi)
-    ≡ d ++ 128 ∷ zeros (e - 9 - length d) ++ (bytesOf lo ++ bytesOf hi)
+    ≡ d ++ 128 ∷ zeros (e - 9 - length d) ++ (le32 lo ++ le32 hi)
 laid d lo hi e h k =
     let n = e - 9 - length d in
     let u : List ℕ = d ++ 128 ∷ zeros n in
@@ -36,16 +37,16 @@ laid d lo hi e h k =
     ap (λ (i : ℕ). d ++ 128 ∷ zeros i) sum ∙ ap (λ (l : List ℕ). d ++ 128 ∷ l) (sym (replicate-append-replicate n (136 - e) 0))
     ∙ sym (append-assoc d (128 ∷ zeros n) rest) in
     let length-u : length u ≡ e - 8 = omega (arith, length-append d (128 ∷ zeros n), length-replicate {A = ℕ} n 0) in
-    let length-v : length (u ++ bytesOf lo) ≡ e - 4 = omega (arith, length-append u (bytesOf lo), length-u) in
-    let one : putWord (u ++ rest) (e - 8) lo ≡ (u ++ bytesOf lo) ++ drop 4 rest =
-    put-after u rest (bytesOf lo) (e - 8) length-u ∙ sym (append-assoc u (bytesOf lo) (drop 4 rest)) in
-    let two : putWord ((u ++ bytesOf lo) ++ drop 4 rest) (e - 4) hi ≡ ((u ++ bytesOf lo) ++ bytesOf hi) ++ drop 4 (drop 4 rest) =
-    put-after (u ++ bytesOf lo) (drop 4 rest) (bytesOf hi) (e - 4) length-v ∙ sym (append-assoc (u ++ bytesOf lo) (bytesOf hi) (drop 4 (drop 4 rest))) in
+    let length-v : length (u ++ le32 lo) ≡ e - 4 = omega (arith, length-append u (le32 lo), length-u) in
+    let one : putWord (u ++ rest) (e - 8) lo ≡ (u ++ le32 lo) ++ drop 4 rest =
+    put-after u rest (le32 lo) (e - 8) length-u ∙ sym (append-assoc u (le32 lo) (drop 4 rest)) in
+    let two : putWord ((u ++ le32 lo) ++ drop 4 rest) (e - 4) hi ≡ ((u ++ le32 lo) ++ le32 hi) ++ drop 4 (drop 4 rest) =
+    put-after (u ++ le32 lo) (drop 4 rest) (le32 hi) (e - 4) length-v ∙ sym (append-assoc (u ++ le32 lo) (le32 hi) (drop 4 (drop 4 rest))) in
     ap (λ (l : List ℕ). take e (putWord (putWord l (e - 8) lo) (e - 4) hi)) whole
     ∙ ap (λ (l : List ℕ). take e (putWord l (e - 4) hi)) one
     ∙ ap (take e) two
-    ∙ take-at ((u ++ bytesOf lo) ++ bytesOf hi) (drop 4 (drop 4 rest)) e (omega (arith, length-append (u ++ bytesOf lo) (bytesOf hi), length-v))
-    ∙ append-assoc u (bytesOf lo) (bytesOf hi)
+    ∙ take-at ((u ++ le32 lo) ++ le32 hi) (drop 4 (drop 4 rest)) e (omega (arith, length-append (u ++ le32 lo) (le32 hi), length-v))
+    ∙ append-assoc u (le32 lo) (le32 hi)
 
 -- the message from its n-th byte on, which is one of m
 drop-message : (n : ℕ) (m : List ℕ) → n ≤ length m
@@ -75,5 +76,5 @@ tail-is m e h =
     ap (λ (i : ℕ). take e (putWord (putWord (set (put (replicate 128 0) 0 d) i 128) (e - 8) lo) (e - 4) hi)) (sym length-d)
     ∙ ap (λ (l : List ℕ). take e (putWord (putWord l (e - 8) lo) (e - 4) hi)) (marked d (omega arith))
     ∙ laid d lo hi e (omega arith) (omega arith)
-    ∙ ap₂ (λ (l : List ℕ) (n : ℕ). l ++ 128 ∷ replicate n 0 ++ (bytesOf lo ++ bytesOf hi)) (ap (λ (n : ℕ). drop n m) whole) count
+    ∙ ap₂ (λ (l : List ℕ) (n : ℕ). l ++ 128 ∷ replicate n 0 ++ (le32 lo ++ le32 hi)) (ap (λ (n : ℕ). drop n m) whole) count
     ∙ sym (drop-message (length m / 64 * 64) m (omega arith))

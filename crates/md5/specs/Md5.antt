@@ -4,14 +4,13 @@
 use Prim.Native.Nat.{ℕ, zero, suc, _+_, _-_, _*_, _/_, _%_, _^_}
 use mathlib.Core.List.{List, [], _∷_, _++_}
 use lib.ListN.{length, getD, take, drop, replicate}
+use Rattle.words.specs.Words.{le32}
 use Rattle.md5_rounds.specs.declared.State.{State}
 use Rattle.md5_rounds.specs.Rounds.{_⊞_, operate, round1, round2, round3, round4}
 
 -- ---- 2. Terminology and notation
 
--- a word's four bytes, the low-order byte first
-abbrev pub bytesOf : ℕ → List ℕ
-bytesOf w = w % 2 ^ 8 ∷ w / 2 ^ 8 % 2 ^ 8 ∷ w / 2 ^ 16 % 2 ^ 8 ∷ w / 2 ^ 24 % 2 ^ 8 ∷ []
+-- (A word's four bytes, the low-order byte first, are `le32` of words.)
 
 -- a list of bytes as words: each group of four bytes is a word, the low-order byte first. (Bytes that are no whole group are left out; the
 -- message of 3.2 has none.)
@@ -32,7 +31,7 @@ padded m = m ++ 128 ∷ replicate ((119 - length m % 64) % 64) 0
 
 -- b, the length of the message in bits before it was padded. Its low-order 64 bits are used, as two words, the low-order word first
 unfoldable pub lengthBytes : List ℕ → List ℕ
-lengthBytes m = let b = length m * 8 % 2 ^ 64 in bytesOf (b % 2 ^ 32) ++ bytesOf (b / 2 ^ 32)
+lengthBytes m = let b = length m * 8 % 2 ^ 64 in le32 (b % 2 ^ 32) ++ le32 (b / 2 ^ 32)
 
 -- the resulting message
 unfoldable pub message : List ℕ → List ℕ
@@ -68,7 +67,7 @@ afterBlocks (suc i) M w = afterBlock (blockAt i M) (afterBlocks i M w)
 
 -- from the low-order byte of A to the high-order byte of D
 abbrev pub output : State → List ℕ
-output w = bytesOf (w .a) ++ bytesOf (w .b) ++ bytesOf (w .c) ++ bytesOf (w .d)
+output w = le32 (w .a) ++ le32 (w .b) ++ le32 (w .c) ++ le32 (w .d)
 
 -- the message digest: M are the words of the resulting message, and their number is a multiple of 16
 unfoldable pub md5 : List ℕ → List ℕ

@@ -5,12 +5,13 @@ use md5_rounds::round_1;
 use md5_rounds::round_2;
 use md5_rounds::round_3;
 use md5_rounds::round_4;
+use words::put_u32_le;
 ghost use mathlib.Core.Path.{_≡_};
 ghost use Prim.Native.Nat.{_+_, _*_, _/_, _≤_, _<_};
 ghost use lib.ListN.{length, getD, take, drop, replicate};
 ghost use Rattle.buffer.specs.Buffer.{put};
 ghost use Rattle.md5_rounds.specs.Rounds.{sineParts};
-ghost use Rattle.md5.specs.Md5.{bytesOf, wordsOf, message, afterBlock, blockAt, afterBlocks, output, md5};
+ghost use Rattle.md5.specs.Md5.{wordsOf, message, afterBlock, blockAt, afterBlocks, output, md5};
 
 // T[1 .. 64] (3.4).
 const SINEPARTS: [u32; 64] = [
@@ -134,26 +135,15 @@ fn process(data: &[u8], t: &[u32; 64], w: State) -> State
     v
 }
 
-// Stores the four bytes of a word, the low-order byte first.
-fn put_word(dst: &mut [u8], at: usize, w: u32)
-    requires { ⌜ at + 4 ≤ length (now dst) ⌝ }
-    ensures { λ _. ⌜ now (dst .exit) ≡ put (now (dst .entry)) at (bytesOf w) ⌝ }
-{
-    dst[at] = (w % 256) as u8;
-    dst[at + 1] = ((w >> 8) % 256) as u8;
-    dst[at + 2] = ((w >> 16) % 256) as u8;
-    dst[at + 3] = ((w >> 24) % 256) as u8;
-}
-
 // The output (3.5).
 fn digest(w: State) -> [u8; 16]
     ensures { λ r. ⌜ r ≡ output w ⌝ }
 {
     let mut sum = [0u8; 16];
-    put_word(&mut sum, 0, w.a);
-    put_word(&mut sum, 4, w.b);
-    put_word(&mut sum, 8, w.c);
-    put_word(&mut sum, 12, w.d);
+    put_u32_le(&mut sum, 0, w.a);
+    put_u32_le(&mut sum, 4, w.b);
+    put_u32_le(&mut sum, 8, w.c);
+    put_u32_le(&mut sum, 12, w.d);
     sum
 }
 
@@ -186,8 +176,8 @@ fn pad(data: &[u8], tail: &mut [u8]) -> usize
     buffer::put_bytes(tail, 0, &data[whole..]);
     tail[rest] = PADDING;
     let bit_len = (data.len() as u64) << 3;
-    put_word(tail, end - 8, (bit_len % 0x1_0000_0000) as u32);
-    put_word(tail, end - 4, (bit_len >> 32) as u32);
+    put_u32_le(tail, end - 8, (bit_len % 0x1_0000_0000) as u32);
+    put_u32_le(tail, end - 4, (bit_len >> 32) as u32);
     end
 }
 

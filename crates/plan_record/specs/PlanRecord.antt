@@ -1,19 +1,15 @@
 -- The plan by value as the bytes of a C struct, `struct merqyduk_plan` of include/merqyduk.h: numbers of 32 bits without gaps between them, and then the
 -- letters. Assumes nothing.
-use Prim.Native.Nat.{ℕ, zero, suc, _+_, _*_, _/_, _%_}
+use Prim.Native.Nat.{ℕ, zero, suc, _+_, _*_}
 use mathlib.Core.List.{List, [], _∷_, _++_, map}
 use lib.ListN.{take, drop, getD}
-use Rattle.words.specs.Words.{twosComplement32, signed32}
+use Rattle.words.specs.Words.{le32, twosComplement32, signed32}
 use Rattle.profile.specs.Plan.{maxLetters}
 use Rattle.reading.specs.declared.Reading.{Reading}
 
 -- ---- numbers in a C struct
 
--- a uint32_t as x86-64 holds it: the least significant byte first
-unfoldable pub le32 : ℕ → List ℕ
-le32 n = n % 256 ∷ n / 256 % 256 ∷ n / 65536 % 256 ∷ n / 16777216 % 256 ∷ []
-
--- such numbers, one after another
+-- numbers of a uint32_t each, one after another, as x86-64 holds them
 unfoldable pub le32s : List ℕ → List ℕ
 le32s [] = []
 le32s (n ∷ ns) = le32 n ++ le32s ns

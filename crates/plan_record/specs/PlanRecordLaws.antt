@@ -8,13 +8,13 @@ use lib.ListN.{length, take, drop, length-append, length-map}
 use mir.Syntax.{w32}
 use mir.Val.{SFits}
 use Rattle.buffer.specs.All.{All, none, more}
-use Rattle.words.specs.Words.{twosComplement32, signed32}
-use Rattle.words.specs.WordsLaws.{word32-be32, number-written}
+use Rattle.words.specs.Words.{le32, twosComplement32, signed32}
+use Rattle.words.specs.WordsLaws.{signed32-twosComplement32}
 use Rattle.profile.specs.Plan.{maxLetters}
 use Rattle.profile.specs.TagTypes.{join}
 use Rattle.reading.specs.declared.Reading.{Reading}
 use Rattle.elements.specs.EncodingLaws.{Encoding}
-use Rattle.plan_record.specs.PlanRecord.{le32, le32s, word32le, words32le, numberCount, recordSize, recordNumbers, planRecord}
+use Rattle.plan_record.specs.PlanRecord.{le32s, word32le, words32le, numberCount, recordSize, recordNumbers, planRecord}
 
 -- a uint32_t
 abbrev pub Word : ℕ → Type 0
@@ -36,14 +36,14 @@ le32s-append [] b = refl
 le32s-append (n ∷ a) b = ap (λ (l : List ℕ). le32 n ++ l) (le32s-append a b) ∙ sym (append-assoc (le32 n) (le32s a) (le32s b))
 
 pub length-le32s : (ns : List ℕ) → length (le32s ns) ≡ 4 * length ns
-unfolding le32s le32
+unfolding le32s
 length-le32s [] = refl
 length-le32s (n ∷ ns) = omega (arith, length-le32s ns)
 
 -- ---- numbers read back
 
 word32le-le32 : (n : ℕ) (r : List ℕ) → Word n → word32le (le32 n ++ r) ≡ n
-unfolding le32 word32le
+unfolding word32le
 word32le-le32 n r h =
     let second : n / 256 ≡ n / 65536 * 256 + n / 256 % 256 = omega arith in
     let third : n / 65536 ≡ n / 16777216 * 256 + n / 65536 % 256 = omega arith in
@@ -51,7 +51,6 @@ word32le-le32 n r h =
     omega arith
 
 past-le32 : (n : ℕ) (r : List ℕ) → drop 4 (le32 n ++ r) ≡ r
-unfolding le32
 past-le32 n r = refl
 
 pub words-back : (ns r : List ℕ) → All Word ns → words32le (length ns) (le32s ns ++ r) ≡ ns
@@ -60,17 +59,9 @@ words-back [] r none = refl
 words-back (n ∷ ns) r (more h hs) =
     rw (append-assoc (le32 n) (le32s ns) r, word32le-le32 n (le32s ns ++ r) h, past-le32 n (le32s ns ++ r)) (ap (λ (l : List ℕ). n ∷ l) (words-back ns r hs))
 
-pub complement-word : (z : ℤ) → SFits w32 z → Word (twosComplement32 z)
-unfolding twosComplement32
-complement-word (pos n) h = omega (arith, h .sfits)
-complement-word (negsuc n) h = omega arith
-
-pub signed-back : (z : ℤ) → SFits w32 z → signed32 (twosComplement32 z) ≡ z
-signed-back z h = ap signed32 (sym (word32-be32 (twosComplement32 z) [] (complement-word z h))) ∙ number-written z [] h
-
 pub signeds-back : (zs : List ℤ) → All (SFits w32) zs → map signed32 (map twosComplement32 zs) ≡ zs
 signeds-back [] none = refl
-signeds-back (z ∷ zs) (more h hs) = ap₂ (λ (x : ℤ) (l : List ℤ). x ∷ l) (signed-back z h) (signeds-back zs hs)
+signeds-back (z ∷ zs) (more h hs) = ap₂ (λ (x : ℤ) (l : List ℤ). x ∷ l) (signed32-twosComplement32 z h) (signeds-back zs hs)
 
 -- ---- the bytes of a plan by value
 

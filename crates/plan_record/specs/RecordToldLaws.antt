@@ -13,6 +13,7 @@ use mir.Val.{SFits}
 use Rattle.buffer.specs.All.{All, none, more}
 use Rattle.buffer.specs.AllLaws.{All-append, All-map, All-replicate}
 use Rattle.words.specs.Words.{twosComplement32, signed32}
+use Rattle.words.specs.WordsLaws.{twosComplement32-lt, signed32-twosComplement32}
 use Rattle.profile.specs.Plan.{Plan, Content, gray, rgb, xyb, GoodCicp, GoodContent, GoodCurve, GoodIntent, Valid, kindOf, maxLetters}
 use Rattle.profile.specs.Numbers.{numbersFor, numbersOf, textFor, textOf}
 use Rattle.profile.specs.declared.Kind.{Kind}
@@ -30,7 +31,7 @@ use Rattle.reader_spec.specs.FileLaws.{valid-wide}
 use Rattle.reading.specs.Reading.{kindNumber, nameNumber, curveNumber, gammaNumber, cicpNumber, textArray, reading}
 use Rattle.reading.specs.declared.Reading.{Reading}
 use Rattle.plan_record.specs.PlanRecord.{le32s, numberCount, recordNumbers, planRecord, readingOf, readingBy}
-use Rattle.plan_record.specs.PlanRecordLaws.{Word, length-le32s, length-numbers, words-back, complement-word, signed-back, signeds-back}
+use Rattle.plan_record.specs.PlanRecordLaws.{Word, length-le32s, length-numbers, words-back, signeds-back}
 
 -- nine int32_t
 pub record Nine (zs : List ℤ) : Type 0 where
@@ -55,7 +56,7 @@ pub record Held (r : Reading) : Type 0 where
 -- ---- the way back
 
 nine-words : {zs : List ℤ} → Nine zs → All Word (map twosComplement32 zs)
-nine-words h = All-map twosComplement32 complement-word (h .fit)
+nine-words h = All-map twosComplement32 twosComplement32-lt (h .fit)
 
 module _ (r : Reading) (h : Held r) where
   abbrev chad : List ℕ
@@ -79,10 +80,10 @@ module _ (r : Reading) (h : Held r) where
       more (h .kind)
       (more (h .intent)
       (more (h .curve)
-      (more (complement-word (r .gamma) (h .gamma))
+      (more (twosComplement32-lt (r .gamma) (h .gamma))
       (more (h .cicp)
-      (more (complement-word (r .«white_x») (h .white-x))
-      (more (complement-word (r .«white_z») (h .white-z))
+      (more (twosComplement32-lt (r .«white_x») (h .white-x))
+      (more (twosComplement32-lt (r .«white_z») (h .white-z))
       (All-append (nine-words (h .chad)) (All-append (nine-words (h .columns)) (more (h .letters) none)))))))))
 
   -- the nine numbers of chad, those of the columns, and what follows them, in the numbers of the struct
@@ -112,10 +113,10 @@ module _ (r : Reading) (h : Held r) where
         kind = r .kind;
         intent = r .intent;
         curve = r .curve;
-        gamma = signed-back (r .gamma) (h .gamma) j;
+        gamma = signed32-twosComplement32 (r .gamma) (h .gamma) j;
         cicp = r .cicp;
-        «white_x» = signed-back (r .«white_x») (h .white-x) j;
-        «white_z» = signed-back (r .«white_z») (h .white-z) j;
+        «white_x» = signed32-twosComplement32 (r .«white_x») (h .white-x) j;
+        «white_z» = signed32-twosComplement32 (r .«white_z») (h .white-z) j;
         chad = chad-back j;
         columns = columns-back j;
         letters = letters-back j;

@@ -2,29 +2,19 @@
 // that there is room; each function answers the place after what it put.
 use numbers::i32_to_bits;
 use reading::Reading;
+use words::put_u32_le;
 ghost use mathlib.Core.List.{map};
 ghost use Prim.Native.Nat.{_+_, _*_, _≤_};
 ghost use lib.ListN.{length, take};
 ghost use Rattle.buffer.specs.Puts.{Puts};
 ghost use Rattle.words.specs.Words.{twosComplement32};
 ghost use Rattle.profile.specs.Plan.{maxLetters};
-ghost use Rattle.plan_record.specs.PlanRecord.{le32, le32s, recordNumbers, recordSize, planRecord};
+ghost use Rattle.plan_record.specs.PlanRecord.{le32s, recordNumbers, recordSize, planRecord};
 
 // The numbers of the struct, and its bytes.
 const NUMBER_COUNT: usize = 26;
 
 pub const RECORD_SIZE: usize = 4 * NUMBER_COUNT + profile::MAX_LETTERS;
-
-fn put_u32_le(out: &mut [u8], at: usize, value: u32) -> usize
-    requires { ⌜ at + 4 ≤ length (now out) ⌝ }
-    ensures { λ r. ⌜ Puts (now (out .entry)) at 4 (le32 value) r (now (out .exit)) ⌝ }
-{
-    out[at] = (value % 256) as u8;
-    out[at + 1] = (value / 256 % 256) as u8;
-    out[at + 2] = (value / 65536 % 256) as u8;
-    out[at + 3] = (value / 16777216 % 256) as u8;
-    at + 4
-}
 
 fn put_u32s_le(out: &mut [u8], at: usize, values: &[u32]) -> usize
     requires { ⌜ at + 4 * length (now values) ≤ length (now out) ⌝ }

@@ -1,4 +1,4 @@
--- Words of bytes, the most significant byte first (ICC.1:2022, clause 4: uInt16Number, uInt32Number), and signed numbers at 32 bits.
+-- Words of bytes, the most significant byte first (ICC.1:2022, clause 4: uInt16Number, uInt32Number) or last, and signed numbers at 32 bits.
 -- Assumes nothing.
 use Prim.Native.Nat.{ℕ, suc, _+_, _*_, _-_, _/_, _%_, _^_, _<_}
 use mathlib.Core.Bool.{cond}
@@ -18,6 +18,10 @@ be16 n = n / 256 % 256 ∷ n % 256 ∷ []
 -- a uInt32Number
 unfoldable pub be32 : ℕ → List ℕ
 be32 n = n / 16777216 % 256 ∷ n / 65536 % 256 ∷ n / 256 % 256 ∷ n % 256 ∷ []
+
+-- the same number with the least significant byte first, as RFC 1321 and the memory of x86-64 have it
+abbrev pub le32 : ℕ → List ℕ
+le32 n = n % 256 ∷ n / 256 % 256 ∷ n / 65536 % 256 ∷ n / 16777216 % 256 ∷ []
 
 -- the number that the first two bytes of a list make; bytes past its end count 0
 unfoldable pub word16 : List ℕ → ℕ

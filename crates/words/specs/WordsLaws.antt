@@ -125,13 +125,13 @@ signed32-is n h = ap (λ (z : ℤ). cond (ltb n (2 ^ 31)) (pos n) z) (ap (λ (k 
     more : (n : ℕ) → n < 2 ^ 32 → 2 ^ 32 - n ≡ suc (2 ^ 32 - suc n)
     more n h = omega arith
 
-twosComplement32-lt : (z : ℤ) → SFits w32 z → twosComplement32 z < 2 ^ 32
+pub twosComplement32-lt : (z : ℤ) → SFits w32 z → twosComplement32 z < 2 ^ 32
 twosComplement32-lt z h = rw (twosComplement32-is z) (ofZ-fits w32 z h .fits)
 
 signed32-fits : (n : ℕ) → n < 2 ^ 32 → SFits w32 (signed32 n)
 signed32-fits n h = rw (signed32-is n h) (toZ-fits w32 n (record { fits = h }))
 
-signed32-twosComplement32 : (z : ℤ) → SFits w32 z → signed32 (twosComplement32 z) ≡ z
+pub signed32-twosComplement32 : (z : ℤ) → SFits w32 z → signed32 (twosComplement32 z) ≡ z
 signed32-twosComplement32 z h = signed32-is (twosComplement32 z) (twosComplement32-lt z h) ∙ ap (toZ w32) (twosComplement32-is z) ∙ toZ-ofZ w32 z h
 
 twosComplement32-signed32 : (n : ℕ) → n < 2 ^ 32 → twosComplement32 (signed32 n) ≡ n

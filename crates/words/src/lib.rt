@@ -1,4 +1,4 @@
-// Big-endian words in a byte slice. The put functions are for callers that know that the word fits; they answer the place after it.
+// Words in a byte slice, big-endian unless named otherwise. The put functions are for callers that know that the word fits; they answer the place after it.
 
 use buffer::byte_at;
 ghost use mathlib.Core.Path.{_≡_};
@@ -8,7 +8,7 @@ ghost use lib.Dec.{leb};
 ghost use lib.ListN.{length, drop};
 ghost use Rattle.buffer.specs.Buffer.{put};
 ghost use Rattle.buffer.specs.Puts.{Puts};
-ghost use Rattle.words.specs.Words.{be16, be32, word16, word32};
+ghost use Rattle.words.specs.Words.{be16, be32, le32, word16, word32};
 
 // Whether count bytes from place at on lie within length bytes. The sum of the two may not fit a usize.
 fn has_room(length: usize, at: usize, count: usize) -> bool
@@ -56,6 +56,18 @@ pub fn put_u32_be(out: &mut [u8], at: usize, value: u32) -> usize
 {
     let next = put_u16_be(&mut *out, at, (value / 65536) as u16);
     put_u16_be(&mut *out, next, (value % 65536) as u16)
+}
+
+// The least significant byte first.
+pub fn put_u32_le(out: &mut [u8], at: usize, value: u32) -> usize
+    requires { ⌜ at + 4 ≤ length (now out) ⌝ }
+    ensures { λ r. ⌜ Puts (now (out .entry)) at 4 (le32 value) r (now (out .exit)) ⌝ }
+{
+    out[at] = (value % 256) as u8;
+    out[at + 1] = (value / 256 % 256) as u8;
+    out[at + 2] = (value / 65536 % 256) as u8;
+    out[at + 3] = (value / 16777216 % 256) as u8;
+    at + 4
 }
 
 // Writes value at pos and answers true; where it does not fit, answers false and leaves the slice unchanged.

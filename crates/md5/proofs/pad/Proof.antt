@@ -16,8 +16,8 @@ use Rattle.md5.proofs.pad.Tie as tie
 length-copied : (c : tie.After-put-bytes) → length (c .put-bytes .last .0) ≡ 128
 length-copied c = c .put-bytes .kept .0 ∙ ap length (c .before .before .before .before .before .before .pre)
 
-length-first : (c : tie.After-put-word) → length (c .put-word .last .0) ≡ 128
-length-first c = c .put-word .kept .0 ∙ simp length-set (length-copied (c .before .before .before .before))
+length-first : (c : tie.After-put-u32-le) → length (c .put-u32-le .last .0) ≡ 128
+length-first c = c .put-u32-le .kept .0 ∙ simp length-set (length-copied (c .before .before .before .before))
 
 sub-whole : tie.Need-sub-whole
 sub-whole c = search needs
@@ -40,26 +40,26 @@ put-bytes-requires c κs = simp (length-take, length-drop) (omega (arith, ap len
 slice-write-tail : tie.Need-slice-write-tail
 slice-write-tail c = omega (arith, length-copied (c .before .before))
 
-sub-put-word : tie.Need-sub-put-word
-sub-put-word c = search needs
+sub-put-u32-le : tie.Need-sub-put-u32-le
+sub-put-u32-le c = search needs
 
-cast-put-word : tie.Need-cast-put-word
-cast-put-word c = search needs
+cast-put-u32-le : tie.Need-cast-put-u32-le
+cast-put-u32-le c = search needs
 
-put-word-requires : tie.Need-put-word-requires
-put-word-requires c κs = simp length-set (omega (arith, length-copied (c .before .before .before)))
+put-u32-le-requires : tie.Need-put-u32-le-requires
+put-u32-le-requires c κs = simp length-set (omega (arith, length-copied (c .before .before .before)))
 
-sub-put-word-2 : tie.Need-sub-put-word-2
-sub-put-word-2 c = search needs
+sub-put-u32-le-2 : tie.Need-sub-put-u32-le-2
+sub-put-u32-le-2 c = search needs
 
-cast-put-word-2 : tie.Need-cast-put-word-2
-cast-put-word-2 c = search needs
+cast-put-u32-le-2 : tie.Need-cast-put-u32-le-2
+cast-put-u32-le-2 c = search needs
 
-put-word-requires-2 : tie.Need-put-word-requires-2
-put-word-requires-2 c κs = omega (arith, length-first (c .before .before .before))
+put-u32-le-requires-2 : tie.Need-put-u32-le-requires-2
+put-u32-le-requires-2 c κs = omega (arith, length-first (c .before .before .before))
 
 same-length : tie.Need-same-length
-same-length c = c .before .before .put-word2 .kept .0 ∙ length-first (c .before .before .before .before .before .before) ∙ sym (ap length (c .before .before .before .before .before .before .before .before .before .before .before .before .before .before .before .before .pre))
+same-length c = c .before .before .put-u32-le2 .kept .0 ∙ length-first (c .before .before .before .before .before .before) ∙ sym (ap length (c .before .before .before .before .before .before .before .before .before .before .before .before .before .before .before .before .pre))
 
 returns : tie.Need-returns
 returns c =
@@ -73,8 +73,8 @@ returns c =
     take-all (length m - (length m - length m % 64)) d (omega (arith, length-drop (length m - length m % 64) m)) in (
       omega arith,
       ap (take e)
-          (c .before .before .put-word2 .ensures ∙ ap (λ (l : List ℕ). putWord l (e - 4) (b / 2 ^ 32))
-          (c .before .before .before .before .before .before .put-word .ensures ∙ ap (λ (l : List ℕ). putWord (set l (length m % 64) 128) (e - 8) (b % 2 ^ 32))
+          (c .before .before .put-u32-le2 .ensures .bytes ∙ ap (λ (l : List ℕ). putWord l (e - 4) (b / 2 ^ 32))
+          (c .before .before .before .before .before .before .put-u32-le .ensures .bytes ∙ ap (λ (l : List ℕ). putWord (set l (length m % 64) 128) (e - 8) (b % 2 ^ 32))
           (c .before .before .before .before .before .before .before .before .before .before .put-bytes .ensures .bytes ∙ ap₂ (λ (x y : List ℕ). put y 0 x) part (s .pre))))
           ∙ tail-is m e h,
     )
@@ -90,11 +90,11 @@ pad-spec =
     part-put-bytes-end
     put-bytes-requires
     slice-write-tail
-    sub-put-word
-    cast-put-word
-    put-word-requires
-    sub-put-word-2
-    cast-put-word-2
-    put-word-requires-2
+    sub-put-u32-le
+    cast-put-u32-le
+    put-u32-le-requires
+    sub-put-u32-le-2
+    cast-put-u32-le-2
+    put-u32-le-requires-2
     same-length
     returns)

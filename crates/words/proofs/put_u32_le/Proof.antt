@@ -3,10 +3,9 @@ use mathlib.Core.Path.{refl}
 use native.Mathlib.Omega.{arith}
 use lib.ListN.{length-set}
 use Rattle.buffer.specs.BufferLaws.{four-stores}
-use Rattle.plan_record.specs.PlanRecord.{le32}
 use borrow.Author.Needs.{needs}
-use Rattle.plan_record.proofs.put_u32_le.Statement.{statement}
-use Rattle.plan_record.proofs.put_u32_le.Tie as tie
+use Rattle.words.proofs.put_u32_le.Statement.{statement}
+use Rattle.words.proofs.put_u32_le.Tie as tie
 
 cast-out : tie.Need-cast-out
 cast-out c = search needs
@@ -48,7 +47,6 @@ same-length : tie.Need-same-length
 same-length c = search needs
 
 returns : tie.Need-returns
-unfolding le32
 returns c = record { size = refl; place = refl; bytes = four-stores _ _ _ _ _ _ (omega arith) }
 
 pub put-u32-le-spec : {M : Type 1} → statement M
