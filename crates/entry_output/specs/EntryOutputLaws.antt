@@ -28,7 +28,8 @@ use Rattle.job.specs.declared.JobEntry.{JobEntry}
 use Rattle.job.specs.declared.JobAnswer.{JobAnswer}
 use Rattle.job.specs.declared.JobAnswer.the-variants as A
 use Rattle.entry_output.specs.EntryOutput.{enough, profileBytes, lengthOrRefusal, entryLine, firstLine}
-use Rattle.entry_output.specs.Steps.{LineIs, Small, SmallAnswer, placeText, firstText}
+use Rattle.line_text.specs.LineText.{SmallAnswer, placeText, firstText}
+use Rattle.entry_output.specs.Steps.{LineIs, Small}
 use Rattle.entry_output.specs.declared.Line.{Line}
 
 -- ---- 1,200 bytes are enough

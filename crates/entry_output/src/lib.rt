@@ -3,19 +3,21 @@
 use color_encoding::JxlColorEncoding;
 use job::JobAnswer;
 use job::JobEntry;
+use line_text::put_first;
+use line_text::put_place;
+use line_text::put_worded;
 use writer::MAX_WRITTEN;
 use writer::Profile;
 ghost use mathlib.Core.Path.{_≡_};
-ghost use mathlib.Core.List.{_++_};
-ghost use Prim.Native.Nat.{_+_, _^_, _≤_, _<_};
+ghost use Prim.Native.Nat.{_+_, _≤_};
 ghost use lib.ListN.{length, take};
 ghost use Rattle.buffer.specs.Puts.{PutsText};
-ghost use Rattle.digits.specs.Digits.{digits};
 ghost use Rattle.encoding_plan.specs.PlanOf.{planOf};
 ghost use Rattle.writer.specs.Writer.{maxWritten};
 ghost use Rattle.job.specs.Bounds.{EntryBounds};
+ghost use Rattle.line_text.specs.LineText.{SmallAnswer};
 ghost use Rattle.entry_output.specs.EntryOutput.{enough, profileBytes, lengthOrRefusal, entryLine, headOf, partOf};
-ghost use Rattle.entry_output.specs.Steps.{LineIs, Measures, Small, SmallAnswer, placeText, firstText};
+ghost use Rattle.entry_output.specs.Steps.{LineIs, Measures, Small};
 
 // The two outputs of a job.
 pub enum Stream {
@@ -35,25 +37,6 @@ fn measure(encoding: JxlColorEncoding) -> Profile
 {
     let mut scratch = [0u8; MAX_WRITTEN];
     writer::maybe_create_profile(encoding, &mut scratch)
-}
-
-// Words, then a number of up to four digits.
-fn put_worded(out: &mut [u8], at: usize, words: &[u8], n: u32) -> usize
-    requires { ⌜ (n < 10 ^ 4) × (at + length (now words) + 4 ≤ length (now out)) ⌝ }
-    ensures { λ r. ⌜ PutsText (now (out .entry)) at (now (words .entry) ++ digits n) r (now (out .exit)) ⌝ }
-{
-    let number = buffer::put_bytes(&mut *out, at, words);
-    digits::put_up_to_four(&mut *out, number, n as u64)
-}
-
-// The number of a section, a space, a place in it, a space.
-fn put_place(out: &mut [u8], section: u32, place: u32) -> usize
-    requires { ⌜ (section ≤ 3) × (place ≤ 255) × (24 ≤ length (now out)) ⌝ }
-    ensures { λ r. ⌜ PutsText (now (out .entry)) 0 (placeText section place) r (now (out .exit)) ⌝ }
-{
-    let first = digits::put_up_to_four(&mut *out, 0, section as u64);
-    let second = put_worded(&mut *out, first, b" ", place);
-    buffer::put_byte(&mut *out, second, b' ')
 }
 
 fn put_answer(out: &mut [u8], at: usize, answer: Profile) -> usize
@@ -76,16 +59,6 @@ fn entry_line(entry: JobEntry) -> Line
     let end = put_answer(&mut bytes, at, measure(encoding));
     let len = buffer::put_byte(&mut bytes, end, b'\n');
     Line { bytes, len }
-}
-
-fn put_first(out: &mut [u8], answer: JobAnswer) -> usize
-    requires { ⌜ SmallAnswer answer × (24 ≤ length (now out)) ⌝ }
-    ensures { λ r. ⌜ PutsText (now (out .entry)) 0 (firstText answer) r (now (out .exit)) ⌝ }
-{
-    match answer {
-        JobAnswer::Entries(n) => put_worded(out, 0, b"profiles ", n),
-        JobAnswer::Refused(k) => put_worded(out, 0, b"job refused ", k),
-    }
 }
 
 // What comes before the entries.

@@ -21,7 +21,7 @@ use Rattle.job.specs.declared.EntryAnswer.the-variants as E
 use Rattle.entry_output.specs.EntryOutput.{headOf, partOf}
 use Rattle.writer.specs.Writer.{tooShort}
 use Rattle.job_output.specs.JobOutput.{partsOf, outputOf, Lends}
-use Rattle.entry_output.specs.Steps.{SmallAnswer}
+use Rattle.line_text.specs.LineText.{SmallAnswer}
 use Rattle.job_output.specs.Entries.{Entries}
 use Rattle.entry_output.specs.declared.Stream.{Stream}
 use Rattle.job_output.specs.declared.Output.the-variants as O

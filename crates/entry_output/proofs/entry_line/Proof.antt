@@ -10,7 +10,8 @@ use Rattle.job.specs.declared.JobEntry.{JobEntry}
 use Rattle.encoding_plan.specs.PlanOf.{planOf}
 use Rattle.writer.specs.declared.Profile.{Profile}
 use Rattle.entry_output.specs.EntryOutput.{enough, lengthOrRefusal}
-use Rattle.entry_output.specs.Steps.{Small, placeText}
+use Rattle.line_text.specs.LineText.{placeText}
+use Rattle.entry_output.specs.Steps.{Small}
 use Rattle.entry_output.specs.EntryOutputLaws.{small-answer, length-place, length-answer, entryLine-is, line-is, line-length}
 use borrow.Author.Needs.{needs}
 use Rattle.entry_output.proofs.entry_line.Statement.{statement}

@@ -5,7 +5,8 @@ use native.Mathlib.Omega.{arith}
 use lib.ListN.{length-append}
 use Rattle.buffer.specs.PutsLaws.{then, wrote}
 use Rattle.entry_output.specs.EntryOutput.{firstLine, headOf}
-use Rattle.entry_output.specs.Steps.{LineIs, firstText}
+use Rattle.line_text.specs.LineText.{firstText}
+use Rattle.entry_output.specs.Steps.{LineIs}
 use Rattle.entry_output.specs.EntryOutputLaws.{firstLine-is, length-first, line-is, line-length, empty-line}
 use Rattle.entry_output.specs.declared.Line.{Line}
 use Rattle.entry_output.specs.declared.Stream.{Stream}

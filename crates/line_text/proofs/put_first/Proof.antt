@@ -2,10 +2,10 @@
 use mathlib.Core.Path.{ap, subst}
 use Rattle.buffer.specs.PutsLaws.{same}
 use Rattle.job.specs.declared.JobAnswer.{JobAnswer}
-use Rattle.entry_output.specs.Steps.{SmallAnswer, firstText}
+use Rattle.line_text.specs.LineText.{SmallAnswer, firstText}
 use borrow.Author.Needs.{needs}
-use Rattle.entry_output.proofs.put_first.Statement.{statement}
-use Rattle.entry_output.proofs.put_first.Tie as tie
+use Rattle.line_text.proofs.put_first.Statement.{statement}
+use Rattle.line_text.proofs.put_first.Tie as tie
 
 enum-known-answer : tie.Need-enum-known-answer
 enum-known-answer c = search needs

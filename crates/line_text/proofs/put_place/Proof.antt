@@ -7,10 +7,10 @@ use Rattle.buffer.specs.Ascii.{ascii}
 use Rattle.buffer.specs.PutsLaws.{then, wrote}
 use Rattle.digits.specs.Digits.{digits}
 use Rattle.digits.specs.DigitsLaws.{length-digits}
-use Rattle.entry_output.specs.Steps.{placeText}
+use Rattle.line_text.specs.LineText.{placeText}
 use borrow.Author.Needs.{needs}
-use Rattle.entry_output.proofs.put_place.Statement.{statement}
-use Rattle.entry_output.proofs.put_place.Tie as tie
+use Rattle.line_text.proofs.put_place.Statement.{statement}
+use Rattle.line_text.proofs.put_place.Tie as tie
 
 put-up-to-four-requires : tie.Need-put-up-to-four-requires
 put-up-to-four-requires c κs = search needs

@@ -5,8 +5,8 @@ use native.Mathlib.Omega.{arith}
 use Rattle.buffer.specs.PutsLaws.{then, wrote}
 use Rattle.digits.specs.Digits.{digits}
 use borrow.Author.Needs.{needs}
-use Rattle.entry_output.proofs.put_worded.Statement.{statement}
-use Rattle.entry_output.proofs.put_worded.Tie as tie
+use Rattle.line_text.proofs.put_worded.Statement.{statement}
+use Rattle.line_text.proofs.put_worded.Tie as tie
 
 put-bytes-requires : tie.Need-put-bytes-requires
 put-bytes-requires c κs = search needs
