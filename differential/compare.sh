@@ -59,7 +59,7 @@ cp -R "$here/../crates" "$out/port/crates"
 mkdir -p "$out/port/crates/leaves/src"
 cp "$here/leaves/lib.rt.in" "$out/port/crates/leaves/src/lib.rt"
 cp "$here/../crates.txt" "$out/port/crates.txt"
-echo "leaves: buffer words numbers md5 linalg matrix_inverse decimal text color_encoding encoding_codes white_point icc_matrix adaptation colorimetry validate job job_output reading reader" >>"$out/port/crates.txt"
+echo "leaves: floats buffer words numbers md5 linalg matrix_inverse decimal text color_encoding encoding_codes white_point icc_matrix adaptation colorimetry validate job job_output reading reader" >>"$out/port/crates.txt"
 
 # A crate that the repository's target/ has proved later than this folder's is taken over; rt proves
 # again what has changed since.

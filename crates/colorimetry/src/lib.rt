@@ -1,6 +1,7 @@
 // From the CIE xy coordinates of a white point and of three primaries to the columns of a profile: `primaries_to_xyz`, `primaries_to_xyz_d50` and
 // `create_icc_rgb_matrix` of api/color.rs. All is f64, from the widened coordinates on, until the matrix is narrowed.
 
+use adaptation::Adaptation;
 use adaptation::adapt_to_xyz_d50;
 use adaptation::diagonal;
 use color_encoding::PrimariesXy;
@@ -16,8 +17,6 @@ ghost use Rattle.buffer.specs.Outputs.{Outputs};
 ghost use Rattle.linalg.specs.Linalg.{product};
 ghost use Rattle.adaptation.specs.Adapt.{adaptToXyzD50};
 ghost use Rattle.colorimetry.specs.Primaries.{primariesMatrix, scaledPrimaries, primariesToXyz, primariesToXyzD50, createIccRgbMatrix, checkedConversion};
-pub use adaptation::Adaptation;
-pub use adaptation::chad_matrix;
 
 // The answer of a conversion; the matrix stands in the caller's output.
 pub enum Conversion {

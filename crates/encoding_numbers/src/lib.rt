@@ -1,7 +1,7 @@
 // The fixed numbers of an encoding's white and primaries.
+use adaptation::Adaptation;
 use color_encoding::PrimariesXy;
 use color_encoding::WhiteXy;
-use colorimetry::Adaptation;
 use colorimetry::Conversion;
 use numbers::S15Fixed16;
 use white_point::WhiteXyz;
@@ -82,7 +82,7 @@ pub fn chad_numbers(white: WhiteXy) -> NineNumbers
     ensures { λ r. ⌜ checkedNineNumbers r ≡ chadNumbers white ⌝ }
 {
     let mut chad = [[0.0f32; 3]; 3];
-    match colorimetry::chad_matrix(white, &mut chad) {
+    match adaptation::chad_matrix(white, &mut chad) {
         Adaptation::Adapted => fixed_numbers(icc_matrix::rows(chad), 5),
         Adaptation::InvalidWhitePoint => NineNumbers {
             refusal: 4,

@@ -11,4 +11,3 @@ pub use bits::i32_to_bits;
 pub use fixed::LARGEST;
 pub use fixed::S15Fixed16;
 pub use fixed::to_s15_fixed_16;
-pub use floats::f64_to_f32;

@@ -1,8 +1,8 @@
 // `validate_icc_matrix` of api/color.rs: whether the matrices of an encoding fit the fixed numbers of a profile.
+use adaptation::Adaptation;
 use color_encoding::JxlColorEncoding;
 use color_encoding::PrimariesXy;
 use color_encoding::WhiteXy;
-use colorimetry::Adaptation;
 use colorimetry::Conversion;
 use white_point::WhiteXyz;
 ghost use mathlib.Core.Path.{_≡_};
@@ -75,7 +75,7 @@ fn validate_rgb(primaries: PrimariesXy, white: WhiteXy) -> Validation
     ensures { λ r. ⌜ r ≡ validation (matricesInRange primaries white) ⌝ }
 {
     let mut chad = [[0.0f32; 3]; 3];
-    match colorimetry::chad_matrix(white, &mut chad) {
+    match adaptation::chad_matrix(white, &mut chad) {
         Adaptation::Adapted => {
             let values = icc_matrix::rows(chad);
             if !all_s15_fixed_16(&values) {

@@ -110,7 +110,7 @@ fn fixed(input: &[u8], out: &mut [u8]) -> usize {
 // n: an f64; the f32 that it narrows to.
 fn narrowed(input: &[u8], out: &mut [u8]) -> usize {
     let bits = read_u32_be(input, 0) as u64 * 4294967296 + read_u32_be(input, 4) as u64;
-    let narrow = numbers::f64_to_f32(numbers::f64_from_bits(bits));
+    let narrow = floats::f64_to_f32(numbers::f64_from_bits(bits));
     put_word(out, 0, numbers::f32_to_bits(narrow));
     4
 }
