@@ -9,7 +9,6 @@ use color_encoding::JxlColorEncoding;
 use color_encoding::PrimariesXy;
 use color_encoding::WhiteXy;
 use colorimetry::Conversion;
-use job::EntryAnswer;
 use job::JobAnswer;
 use job_output::JobProfile;
 use job_output::MOST_LISTING;
@@ -173,17 +172,15 @@ fn gray_white(input: &[u8], out: &mut [u8]) -> usize {
 // ---- reader and finder
 
 // Whether the finder hands back the element that a line of the tag table names.
-fn finds(file: &[u8], line: usize) -> bool
-    requires { ⌜ line ≤ 1000000 ⌝ }
-{
+fn finds(file: &[u8], line: &[u8]) -> bool {
     let signature = [
-        byte_at(file, line),
-        byte_at(file, line + 1),
-        byte_at(file, line + 2),
-        byte_at(file, line + 3),
+        byte_at(line, 0),
+        byte_at(line, 1),
+        byte_at(line, 2),
+        byte_at(line, 3),
     ];
-    let offset = read_u32_be(file, line + 4) as usize;
-    let size = read_u32_be(file, line + 8) as usize;
+    let offset = read_u32_be(line, 4) as usize;
+    let size = read_u32_be(line, 8) as usize;
     same_bytes(reader::find(file, signature), part(file, offset, size))
 }
 
@@ -191,7 +188,7 @@ fn finds(file: &[u8], line: usize) -> bool
 fn finds_all(file: &[u8]) -> bool {
     let tags = (read_u32_be(file, 128) % 1000) as usize;
     for i in 0..tags {
-        if !finds(file, 132 + 12 * i) {
+        if !finds(file, part(file, 132 + 12 * i, 12)) {
             return false;
         }
     }
@@ -294,17 +291,18 @@ fn encoding(input: &[u8], out: &mut [u8]) -> usize {
 // ---- jobs
 
 // An output of a job, its profiles or its listing: the length or the refusal.
+fn output_number(answer: Output) -> usize {
+    match answer {
+        Output::Written(n) => n,
+        Output::Refused(k) => k as usize,
+    }
+}
+
 fn output(profiles: bool, job: &[u8], space: &mut [u8]) -> usize {
     if profiles {
-        match job_output::profiles(job, space) {
-            Output::Written(n) => n,
-            Output::Refused(k) => k as usize,
-        }
+        output_number(job_output::profiles(job, space))
     } else {
-        match job_output::listing(job, space) {
-            Output::Written(n) => n,
-            Output::Refused(k) => k as usize,
-        }
+        output_number(job_output::listing(job, space))
     }
 }
 
@@ -318,29 +316,22 @@ fn put_output(out: &mut [u8], at: usize, profiles: bool, job: &[u8], space: &mut
     put_number_and_digest(out, next, length, space)
 }
 
-// The section and the place of an entry; a refusal stands for the section.
-fn entry_words(answer: EntryAnswer) -> [u32; 2] {
+// The length or the refusal of an entry's profile, 0 where there is no such entry.
+fn profile_number(answer: JobProfile) -> u32 {
     match answer {
-        EntryAnswer::Is(entry) => [entry.section, entry.place],
-        EntryAnswer::Absent => [0, 0],
-        EntryAnswer::Refused(k) => [k, 0],
-    }
-}
-
-// The i-th entry by itself: its section and place, and the length or refusal of its profile. Answers the length, if the profile stands at `done` in
-// all.
-fn put_entry(out: &mut [u8], at: usize, job: &[u8], i: usize, all: &[u8], done: usize) -> usize {
-    let entry = entry_words(job::entry(job, i));
-    let mut space = [UNTOUCHED; MAX_WRITTEN];
-    let number = match job_output::profile(job, i, &mut space) {
         JobProfile::Written(n) => n,
         JobProfile::Absent => 0,
         JobProfile::Refused(k) => k,
-    };
-    let next = put_two(&mut *out, at, entry[0], entry[1]);
-    put_word(out, next, number);
+    }
+}
+
+// The i-th entry by itself. Answers the length of its profile, if this is what stands at `done` in all.
+fn put_entry(out: &mut [u8], at: usize, job: &[u8], i: usize, all: &[u8], done: usize) -> usize {
+    let mut space = [UNTOUCHED; MAX_WRITTEN];
+    let number = profile_number(job_output::profile(job, i, &mut space));
+    put_word(out, at, number);
     let n = number as usize;
-    if 100 < n && same_bytes(part(&space, 0, n), part(all, done, n)) {
+    if same_bytes(part(&space, 0, n), part(all, done, n)) {
         n
     } else {
         0
@@ -354,7 +345,7 @@ fn put_entries(out: &mut [u8], start: usize, job: &[u8], entries: u32, all: &[u8
     let mut done = 0usize;
     for i in 0..n {
         done = wrapping_add_usize(done, put_entry(&mut *out, at, job, i, all, done));
-        at = wrapping_add_usize(at, 12);
+        at = wrapping_add_usize(at, 4);
     }
     if done == all.len() { at } else { 0 }
 }
@@ -446,15 +437,21 @@ fn record_at(list: &[u8], start: usize, bytes: &mut [u8]) -> Record {
 // The answer of the crates to an input: how many bytes it has, or 0 where a check of the program fails.
 fn answer(letter: u8, input: &[u8], out: &mut [u8]) -> usize {
     match letter {
+        b'e' => encoding(input, out),
+        b'r' => reading(input, out),
+        b'j' => job(input, out),
+        _ => leaf(letter, input, out),
+    }
+}
+
+fn leaf(letter: u8, input: &[u8], out: &mut [u8]) -> usize {
+    match letter {
         b'm' | b'b' => put_digest(out, 0, input),
         b'f' => fixed(input, out),
         b'n' => narrowed(input, out),
         b't' => decimals(input, out),
         b'c' => columns(input, out),
         b'g' => gray_white(input, out),
-        b'e' => encoding(input, out),
-        b'r' => reading(input, out),
-        b'j' => job(input, out),
         _ => 0,
     }
 }
@@ -462,8 +459,10 @@ fn answer(letter: u8, input: &[u8], out: &mut [u8]) -> usize {
 // ---- counting
 
 // The places of a tally: a letter for how many records of the type were tried, its capital for how many matched; a refusal for how often it was the
-// answer of a matched record; and the first line that differs.
+// answer of a matched record; DIFFERS for the first line that differs.
 const PLACES: usize = 256;
+
+const DIFFERS: u8 = 255;
 
 const FIRST: usize = 255;
 
@@ -472,15 +471,29 @@ fn mark(tally: &mut [u64; PLACES], at: u8) {
     tally[place] = wrapping_add_u64(tally[place], 1);
 }
 
-fn count(tally: &mut [u64; PLACES], letter: u8, matched: bool, refusal: u32, line: u64) {
+// The refusal with which an answer of writer, reader or job begins, or 0.
+fn refusal(letter: u8, number: u32) -> u8 {
+    match letter {
+        b'e' | b'r' | b'j' => { if number < 44 { number as u8 } else { 0 } }
+        _ => 0,
+    }
+}
+
+// The refusal of a record that matches, or DIFFERS.
+fn outcome(letter: u8, bytes: &[u8], r: Record, out: &mut [u8]) -> u8 {
+    let n = answer(letter, part(bytes, 0, r.input), &mut *out);
+    if n != 0 && same_bytes(part(out, 0, n), part(bytes, r.input, r.answer)) {
+        refusal(letter, read_u32_be(out, 0))
+    } else {
+        DIFFERS
+    }
+}
+
+fn count(tally: &mut [u64; PLACES], letter: u8, outcome: u8, line: u64) {
     mark(&mut *tally, letter);
-    if matched {
+    if outcome != DIFFERS {
         mark(&mut *tally, letter % 32 + 64);
-        if letter == b'e' || letter == b'r' || letter == b'j' {
-            if refusal < 44 {
-                mark(tally, refusal as u8);
-            }
-        }
+        mark(tally, outcome);
     } else if tally[FIRST] == 0 {
         tally[FIRST] = line;
     }
@@ -494,10 +507,14 @@ fn replay(list: &[u8], start: usize, tally: &mut [u64; PLACES]) {
     let mut line = 1u64;
     while at < list.len() {
         line = wrapping_add_u64(line, 1);
+        let letter = list[at];
         let r = record_at(list, at + 1, &mut bytes);
-        let n = answer(list[at], part(&bytes, 0, r.input), &mut out);
-        let matched = n != 0 && same_bytes(part(&out, 0, n), part(&bytes, r.input, r.answer));
-        count(&mut *tally, list[at], matched, read_u32_be(&out, 0), line);
+        count(
+            &mut *tally,
+            letter,
+            outcome(letter, &bytes, r, &mut out),
+            line,
+        );
         if r.next <= at {
             return;
         }
@@ -544,12 +561,7 @@ fn main() {
         tally[FIRST] = 1;
     }
     print_tally(
-        b"m #M of #m\nb #B of #b\nf #F of #f\nn #N of #n\nt #T of #t\nc #C of #c\ng #G of #g\ne #E of #e\nr #R of #r\nj #J of #j\n",
+        b"m #M of #m\nb #B of #b\nf #F of #f\nn #N of #n\nt #T of #t\nc #C of #c\ng #G of #g\ne #E of #e\nr #R of #r\nj #J of #j\nrefused 1: #\x01\nrefused 2: #\x02\nrefused 3: #\x03\nrefused 4: #\x04\nrefused 5: #\x05\nrefused 6: #\x06\nrefused 7: #\x07\nrefused 8: #\x08\nrefused 9: #\x09\nrefused 21: #\x15\nrefused 22: #\x16\nrefused 23: #\x17\nrefused 24: #\x18\nrefused 25: #\x19\nrefused 26: #\x1a\nrefused 27: #\x1b\nrefused 28: #\x1c\nrefused 41: #\x29\nrefused 42: #\x2a\nrefused 43: #\x2b\nfirst line that differs #\xff\n",
         &tally,
     );
-    print_tally(
-        b"refused 1: #\x01\nrefused 2: #\x02\nrefused 3: #\x03\nrefused 4: #\x04\nrefused 5: #\x05\nrefused 6: #\x06\nrefused 7: #\x07\nrefused 8: #\x08\nrefused 9: #\x09\nrefused 21: #\x15\nrefused 22: #\x16\nrefused 23: #\x17\nrefused 24: #\x18\nrefused 25: #\x19\nrefused 26: #\x1a\nrefused 27: #\x1b\nrefused 28: #\x1c\nrefused 41: #\x29\nrefused 42: #\x2a\nrefused 43: #\x2b\n",
-        &tally,
-    );
-    print_tally(b"first line that differs #\xff\n", &tally);
 }

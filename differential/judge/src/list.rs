@@ -248,13 +248,12 @@ fn entries(job: &[u8]) -> Vec<String> {
     let mut fields = words(&[refusal, count as u32]);
     fields.extend(outputs(&jobs::profiles(&answer)));
     for entry in answer.iter().flatten() {
-        let number = match &entry.profile {
+        fields.push(word(match &entry.profile {
             Ok(profile) => profile.len() as u32,
             Err(refusal) => *refusal,
-        };
-        fields.extend(words(&[entry.section.into(), entry.place.into(), number]));
+        }));
     }
-    fields.extend(words(&[refusal, 0, refusal]));
+    fields.push(word(refusal));
     let listing = jobs::listing(&answer);
     fields.extend(outputs(listing.as_bytes()));
     fields.push(hex(listing.as_bytes()));

@@ -19,11 +19,14 @@ cast-tags c = search needs
 loop-holds : tie.Need-loop-holds Inv-loop μ-loop
 loop-holds c = search needs
 
-mul-finds : tie.Need-mul-finds Inv-loop μ-loop
-mul-finds c = search needs
+mul-part : tie.Need-mul-part Inv-loop μ-loop
+mul-part c = search needs
 
-add-finds : tie.Need-add-finds Inv-loop μ-loop
-add-finds c = search needs
+add-part : tie.Need-add-part Inv-loop μ-loop
+add-part c = search needs
+
+part-requires : tie.Need-part-requires Inv-loop μ-loop
+part-requires c κs = search needs
 
 finds-requires : tie.Need-finds-requires Inv-loop μ-loop
 finds-requires c κs = search needs
@@ -55,8 +58,9 @@ finds-all-spec =
     read-u32-be-requires
     cast-tags
     loop-holds
-    mul-finds
-    add-finds
+    mul-part
+    add-part
+    part-requires
     finds-requires
     returns
     add-i

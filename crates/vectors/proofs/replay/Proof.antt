@@ -24,6 +24,9 @@ loop-holds c = search needs
 wrapping-add-u64-requires : tie.Need-wrapping-add-u64-requires Inv-loop μ-loop
 wrapping-add-u64-requires c κs = search needs
 
+shared-slice-read-letter : tie.Need-shared-slice-read-letter Inv-loop μ-loop
+shared-slice-read-letter c = search needs
+
 add-record-at : tie.Need-add-record-at Inv-loop μ-loop
 add-record-at c = search needs
 
@@ -33,44 +36,14 @@ slice-aggregate-record-at c = search needs
 record-at-requires : tie.Need-record-at-requires Inv-loop μ-loop
 record-at-requires c κs = search needs
 
-shared-slice-read-answer : tie.Need-shared-slice-read-answer Inv-loop μ-loop
-shared-slice-read-answer c = search needs
+slice-aggregate-outcome : tie.Need-slice-aggregate-outcome Inv-loop μ-loop
+slice-aggregate-outcome c = search needs
 
-slice-aggregate-part : tie.Need-slice-aggregate-part Inv-loop μ-loop
-slice-aggregate-part c = search needs
+slice-aggregate-outcome-2 : tie.Need-slice-aggregate-outcome-2 Inv-loop μ-loop
+slice-aggregate-outcome-2 c = search needs
 
-part-requires : tie.Need-part-requires Inv-loop μ-loop
-part-requires c κs = search needs
-
-slice-aggregate-answer : tie.Need-slice-aggregate-answer Inv-loop μ-loop
-slice-aggregate-answer c = search needs
-
-answer-requires : tie.Need-answer-requires Inv-loop μ-loop
-answer-requires c κs = search needs
-
-slice-aggregate-part-2 : tie.Need-slice-aggregate-part-2 Inv-loop μ-loop
-slice-aggregate-part-2 c = search needs
-
-part-requires-2 : tie.Need-part-requires-2 Inv-loop μ-loop
-part-requires-2 c κs = search needs
-
-slice-aggregate-part-3 : tie.Need-slice-aggregate-part-3 Inv-loop μ-loop
-slice-aggregate-part-3 c = search needs
-
-part-requires-3 : tie.Need-part-requires-3 Inv-loop μ-loop
-part-requires-3 c κs = search needs
-
-same-bytes-requires : tie.Need-same-bytes-requires Inv-loop μ-loop
-same-bytes-requires c κs = search needs
-
-shared-slice-read-count : tie.Need-shared-slice-read-count Inv-loop μ-loop
-shared-slice-read-count c = search needs
-
-slice-aggregate-read-u32-be : tie.Need-slice-aggregate-read-u32-be Inv-loop μ-loop
-slice-aggregate-read-u32-be c = search needs
-
-read-u32-be-requires : tie.Need-read-u32-be-requires Inv-loop μ-loop
-read-u32-be-requires c κs = search needs
+outcome-requires : tie.Need-outcome-requires Inv-loop μ-loop
+outcome-requires c κs = search needs
 
 count-requires : tie.Need-count-requires Inv-loop μ-loop
 count-requires c κs = search needs
@@ -97,22 +70,13 @@ replay-spec =
     large-buffer-requires-2
     loop-holds
     wrapping-add-u64-requires
+    shared-slice-read-letter
     add-record-at
     slice-aggregate-record-at
     record-at-requires
-    shared-slice-read-answer
-    slice-aggregate-part
-    part-requires
-    slice-aggregate-answer
-    answer-requires
-    slice-aggregate-part-2
-    part-requires-2
-    slice-aggregate-part-3
-    part-requires-3
-    same-bytes-requires
-    shared-slice-read-count
-    slice-aggregate-read-u32-be
-    read-u32-be-requires
+    slice-aggregate-outcome
+    slice-aggregate-outcome-2
+    outcome-requires
     count-requires
     returns
     loop-less

@@ -95,7 +95,7 @@ fn job_examples() -> Vec<Record> {
         },
         Record {
             input: Input::Job(job_cases::of_the_scope()),
-            given: vec![(19, hex(listing.as_bytes()))],
+            given: vec![(13, hex(listing.as_bytes()))],
         },
     ]
 }
