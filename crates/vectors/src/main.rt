@@ -81,14 +81,11 @@ fn put_number_and_digest(out: &mut [u8], at: usize, number: usize, bytes: &[u8])
     put_digest(out, wrapping_add_usize(at, 4), bytes)
 }
 
-// A status, and the nine numbers of a matrix, row by row.
-fn put_matrix(out: &mut [u8], start: usize, status: u32, m: [[f32; 3]; 3]) {
-    let numbers = icc_matrix::rows(m);
-    put_word(&mut *out, start, status);
+fn put_nine(out: &mut [u8], start: usize, words: [u32; 9]) {
     let mut at = start;
     for i in 0..9 {
+        put_word(&mut *out, at, words[i]);
         at = wrapping_add_usize(at, 4);
-        put_word(&mut *out, at, numbers::f32_to_bits(numbers[i]));
     }
 }
 
@@ -96,6 +93,22 @@ fn put_matrix(out: &mut [u8], start: usize, status: u32, m: [[f32; 3]; 3]) {
 
 fn float(input: &[u8], at: usize) -> f32 {
     numbers::f32_from_bits(read_u32_be(input, at))
+}
+
+// The bits of a matrix, row by row.
+fn float_bits(m: [[f32; 3]; 3]) -> [u32; 9] {
+    let x = colorimetry::rows(m);
+    [
+        numbers::f32_to_bits(x[0]),
+        numbers::f32_to_bits(x[1]),
+        numbers::f32_to_bits(x[2]),
+        numbers::f32_to_bits(x[3]),
+        numbers::f32_to_bits(x[4]),
+        numbers::f32_to_bits(x[5]),
+        numbers::f32_to_bits(x[6]),
+        numbers::f32_to_bits(x[7]),
+        numbers::f32_to_bits(x[8]),
+    ]
 }
 
 // f: a float; 0 and its fixed number, or 1 where it is out of range.
@@ -146,8 +159,9 @@ fn columns(input: &[u8], out: &mut [u8]) -> usize {
         Conversion::InvalidWhitePoint => 4,
         Conversion::MatrixInversionFailed => 6,
     };
-    put_matrix(&mut *out, 0, adapted, chad);
-    put_matrix(out, 40, converted, rgb);
+    put_nine(&mut *out, 8, float_bits(chad));
+    put_nine(&mut *out, 44, float_bits(rgb));
+    put_two(out, 0, adapted, converted);
     80
 }
 
@@ -196,7 +210,7 @@ fn finds_all(file: &[u8]) -> bool {
     absent.len() == 0
 }
 
-// The single numbers of the reader's answer, in their order: eight before `chad` and columns, one after.
+// The single numbers of the reader's answer.
 fn single_numbers(r: Reading) -> [u32; 9] {
     [
         r.refusal,
@@ -211,25 +225,18 @@ fn single_numbers(r: Reading) -> [u32; 9] {
     ]
 }
 
-fn put_three(out: &mut [u8], i: usize, single: u32, chad: u32, column: u32)
-    requires { ⌜ i ≤ 8 ⌝ }
-{
-    put_word(&mut *out, if i < 8 { 4 * i } else { 104 }, single);
-    put_word(&mut *out, 32 + 4 * i, chad);
-    put_word(out, 68 + 4 * i, column);
-}
-
-fn put_plan(out: &mut [u8], single: [u32; 9], chad: [i32; 9], columns: [i32; 9]) {
-    for i in 0..9 {
-        let column = numbers::i32_to_bits(columns[i]);
-        put_three(
-            &mut *out,
-            i,
-            single[i],
-            numbers::i32_to_bits(chad[i]),
-            column,
-        );
-    }
+fn fixed_bits(x: [i32; 9]) -> [u32; 9] {
+    [
+        numbers::i32_to_bits(x[0]),
+        numbers::i32_to_bits(x[1]),
+        numbers::i32_to_bits(x[2]),
+        numbers::i32_to_bits(x[3]),
+        numbers::i32_to_bits(x[4]),
+        numbers::i32_to_bits(x[5]),
+        numbers::i32_to_bits(x[6]),
+        numbers::i32_to_bits(x[7]),
+        numbers::i32_to_bits(x[8]),
+    ]
 }
 
 // r: a file; the reader's answer. The elements of an accepted file are found; of a refused one none is.
@@ -239,7 +246,9 @@ fn reading(file: &[u8], out: &mut [u8]) -> usize {
     let end = put(&mut *out, 108, part(&text, 0, r.letters));
     let chad = r.chad;
     let columns = r.columns;
-    put_plan(out, single_numbers(r), chad, columns);
+    put_nine(&mut *out, 0, single_numbers(r));
+    put_nine(&mut *out, 36, fixed_bits(chad));
+    put_nine(out, 72, fixed_bits(columns));
     let found = if r.refusal == 0 {
         finds_all(file)
     } else {
@@ -561,7 +570,7 @@ fn main() {
         tally[FIRST] = 1;
     }
     print_tally(
-        b"m #M of #m\nb #B of #b\nf #F of #f\nn #N of #n\nt #T of #t\nc #C of #c\ng #G of #g\ne #E of #e\nr #R of #r\nj #J of #j\nrefused 1: #\x01\nrefused 2: #\x02\nrefused 3: #\x03\nrefused 4: #\x04\nrefused 5: #\x05\nrefused 6: #\x06\nrefused 7: #\x07\nrefused 8: #\x08\nrefused 9: #\x09\nrefused 21: #\x15\nrefused 22: #\x16\nrefused 23: #\x17\nrefused 24: #\x18\nrefused 25: #\x19\nrefused 26: #\x1a\nrefused 27: #\x1b\nrefused 28: #\x1c\nrefused 41: #\x29\nrefused 42: #\x2a\nrefused 43: #\x2b\nfirst line that differs #\xff\n",
+        b"m #M of #m\nb #B of #b\nf #F of #f\nn #N of #n\nt #T of #t\nc #C of #c\ng #G of #g\ne #E of #e\nr #R of #r\nj #J of #j\nwriter refused 1: #\x01, 2: #\x02, 3: #\x03, 4: #\x04, 5: #\x05, 6: #\x06, 7: #\x07, 8: #\x08, 9: #\x09\nreader refused 21: #\x15, 22: #\x16, 23: #\x17, 24: #\x18, 25: #\x19, 26: #\x1a, 27: #\x1b, 28: #\x1c\njob refused 41: #\x29, 42: #\x2a, 43: #\x2b\nfirst line that differs #\xff\n",
         &tally,
     );
 }

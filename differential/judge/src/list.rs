@@ -6,7 +6,7 @@ use std::fmt::Write;
 use crate::encoding::Encoding;
 use crate::inputs::jobs::Job;
 use crate::inputs::pieces::Colours;
-use crate::leaves::{self, Numbers};
+use crate::leaves;
 use crate::reader::{self, Plan};
 use crate::{answer, jobs};
 
@@ -135,11 +135,13 @@ impl Input {
             Self::Narrow(bits) => words(&[leaves::narrow(*bits)]),
             Self::Text(bits) => vec![hex(leaves::text(*bits).as_bytes())],
             Self::Colours(Colours { wx, wy, xy }) => {
-                let columns = numbers(&leaves::columns(*wx, *wy, *xy));
-                [numbers(&leaves::adaptation(*wx, *wy)), columns].concat()
+                let chad = leaves::adaptation(*wx, *wy);
+                let columns = leaves::columns(*wx, *wy, *xy);
+                let statuses = words(&[chad.status, columns.status]);
+                [statuses, words(&chad.bits), words(&columns.bits)].concat()
             }
             Self::GrayWhite(wx, wy) => match leaves::gray_white(*wx, *wy) {
-                white if white.status == 0 => numbers(&white),
+                white if white.status == 0 => [words(&[0]), words(&white.bits)].concat(),
                 white => words(&[white.status]),
             },
             Self::Encoding(room, encoding) => written(*room as usize, encoding),
@@ -221,18 +223,20 @@ fn read(file: &[u8]) -> Vec<String> {
         Ok(plan) => (0, plan),
         Err(refusal) => (refusal, Plan::default()),
     };
-    let first = [
+    let [white_x, white_z] = plan.white;
+    let mut fields = words(&[
         refusal,
         plan.kind.into(),
         plan.intent,
         plan.curve.into(),
         plan.gamma as u32,
         plan.cicp.into(),
-    ];
-    let rest = plan.white.iter().chain(&plan.chad).chain(&plan.columns);
-    let mut fields = words(&first);
-    fields.extend(rest.map(|number| word(*number as u32)));
-    fields.push(word(plan.text.len() as u32));
+        white_x as u32,
+        white_z as u32,
+        plan.text.len() as u32,
+    ]);
+    let numbers = plan.chad.iter().chain(&plan.columns);
+    fields.extend(numbers.map(|number| word(*number as u32)));
     fields.push(hex(&plan.text));
     fields
 }
@@ -273,10 +277,6 @@ fn outputs(bytes: &[u8]) -> Vec<String> {
         word(bytes.len() as u32),
         hex(&leaves::md5(bytes)),
     ]
-}
-
-fn numbers<const N: usize>(numbers: &Numbers<N>) -> Vec<String> {
-    [words(&[numbers.status]), words(&numbers.bits)].concat()
 }
 
 /// A number of 32 bits as a field.
