@@ -81,11 +81,14 @@ fn put_number_and_digest(out: &mut [u8], at: usize, number: usize, bytes: &[u8])
     put_digest(out, wrapping_add_usize(at, 4), bytes)
 }
 
-fn put_nine(out: &mut [u8], start: usize, words: [u32; 9]) {
+// A status, and the nine numbers of a matrix, row by row.
+fn put_matrix(out: &mut [u8], start: usize, status: u32, m: [[f32; 3]; 3]) {
+    let numbers = colorimetry::rows(m);
+    put_word(&mut *out, start, status);
     let mut at = start;
     for i in 0..9 {
-        put_word(&mut *out, at, words[i]);
         at = wrapping_add_usize(at, 4);
+        put_word(&mut *out, at, numbers::f32_to_bits(numbers[i]));
     }
 }
 
@@ -93,22 +96,6 @@ fn put_nine(out: &mut [u8], start: usize, words: [u32; 9]) {
 
 fn float(input: &[u8], at: usize) -> f32 {
     numbers::f32_from_bits(read_u32_be(input, at))
-}
-
-// The bits of a matrix, row by row.
-fn float_bits(m: [[f32; 3]; 3]) -> [u32; 9] {
-    let x = colorimetry::rows(m);
-    [
-        numbers::f32_to_bits(x[0]),
-        numbers::f32_to_bits(x[1]),
-        numbers::f32_to_bits(x[2]),
-        numbers::f32_to_bits(x[3]),
-        numbers::f32_to_bits(x[4]),
-        numbers::f32_to_bits(x[5]),
-        numbers::f32_to_bits(x[6]),
-        numbers::f32_to_bits(x[7]),
-        numbers::f32_to_bits(x[8]),
-    ]
 }
 
 // f: a float; 0 and its fixed number, or 1 where it is out of range.
@@ -159,9 +146,8 @@ fn columns(input: &[u8], out: &mut [u8]) -> usize {
         Conversion::InvalidWhitePoint => 4,
         Conversion::MatrixInversionFailed => 6,
     };
-    put_nine(&mut *out, 8, float_bits(chad));
-    put_nine(&mut *out, 44, float_bits(rgb));
-    put_two(out, 0, adapted, converted);
+    put_matrix(&mut *out, 0, adapted, chad);
+    put_matrix(out, 40, converted, rgb);
     80
 }
 
@@ -225,18 +211,25 @@ fn single_numbers(r: Reading) -> [u32; 9] {
     ]
 }
 
-fn fixed_bits(x: [i32; 9]) -> [u32; 9] {
-    [
-        numbers::i32_to_bits(x[0]),
-        numbers::i32_to_bits(x[1]),
-        numbers::i32_to_bits(x[2]),
-        numbers::i32_to_bits(x[3]),
-        numbers::i32_to_bits(x[4]),
-        numbers::i32_to_bits(x[5]),
-        numbers::i32_to_bits(x[6]),
-        numbers::i32_to_bits(x[7]),
-        numbers::i32_to_bits(x[8]),
-    ]
+fn put_three(out: &mut [u8], i: usize, single: u32, chad: u32, column: u32)
+    requires { ⌜ i ≤ 8 ⌝ }
+{
+    put_word(&mut *out, 4 * i, single);
+    put_word(&mut *out, 36 + 4 * i, chad);
+    put_word(out, 72 + 4 * i, column);
+}
+
+fn put_plan(out: &mut [u8], single: [u32; 9], chad: [i32; 9], columns: [i32; 9]) {
+    for i in 0..9 {
+        let column = numbers::i32_to_bits(columns[i]);
+        put_three(
+            &mut *out,
+            i,
+            single[i],
+            numbers::i32_to_bits(chad[i]),
+            column,
+        );
+    }
 }
 
 // r: a file; the reader's answer. The elements of an accepted file are found; of a refused one none is.
@@ -246,9 +239,7 @@ fn reading(file: &[u8], out: &mut [u8]) -> usize {
     let end = put(&mut *out, 108, part(&text, 0, r.letters));
     let chad = r.chad;
     let columns = r.columns;
-    put_nine(&mut *out, 0, single_numbers(r));
-    put_nine(&mut *out, 36, fixed_bits(chad));
-    put_nine(out, 72, fixed_bits(columns));
+    put_plan(out, single_numbers(r), chad, columns);
     let found = if r.refusal == 0 {
         finds_all(file)
     } else {

@@ -6,7 +6,7 @@ use std::fmt::Write;
 use crate::encoding::Encoding;
 use crate::inputs::jobs::Job;
 use crate::inputs::pieces::Colours;
-use crate::leaves;
+use crate::leaves::{self, Numbers};
 use crate::reader::{self, Plan};
 use crate::{answer, jobs};
 
@@ -135,13 +135,11 @@ impl Input {
             Self::Narrow(bits) => words(&[leaves::narrow(*bits)]),
             Self::Text(bits) => vec![hex(leaves::text(*bits).as_bytes())],
             Self::Colours(Colours { wx, wy, xy }) => {
-                let chad = leaves::adaptation(*wx, *wy);
-                let columns = leaves::columns(*wx, *wy, *xy);
-                let statuses = words(&[chad.status, columns.status]);
-                [statuses, words(&chad.bits), words(&columns.bits)].concat()
+                let columns = numbers(&leaves::columns(*wx, *wy, *xy));
+                [numbers(&leaves::adaptation(*wx, *wy)), columns].concat()
             }
             Self::GrayWhite(wx, wy) => match leaves::gray_white(*wx, *wy) {
-                white if white.status == 0 => [words(&[0]), words(&white.bits)].concat(),
+                white if white.status == 0 => numbers(&white),
                 white => words(&[white.status]),
             },
             Self::Encoding(room, encoding) => written(*room as usize, encoding),
@@ -277,6 +275,10 @@ fn outputs(bytes: &[u8]) -> Vec<String> {
         word(bytes.len() as u32),
         hex(&leaves::md5(bytes)),
     ]
+}
+
+fn numbers<const N: usize>(numbers: &Numbers<N>) -> Vec<String> {
+    [words(&[numbers.status]), words(&numbers.bits)].concat()
 }
 
 /// A number of 32 bits as a field.
