@@ -83,7 +83,7 @@ fn put_number_and_digest(out: &mut [u8], at: usize, number: usize, bytes: &[u8])
 
 // A status, and the nine numbers of a matrix, row by row.
 fn put_matrix(out: &mut [u8], start: usize, status: u32, m: [[f32; 3]; 3]) {
-    let numbers = colorimetry::rows(m);
+    let numbers = icc_matrix::rows(m);
     put_word(&mut *out, start, status);
     let mut at = start;
     for i in 0..9 {
