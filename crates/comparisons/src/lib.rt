@@ -26,8 +26,10 @@ ghost use Rattle.reader_spec.specs.Decide as Decide;
 ghost use Rattle.reader_spec.specs.Steps.{Candidate};
 ghost use Rattle.reader_spec.specs.Tests as Tests;
 
-// Where the id ends, which has 16 bytes.
-const ID_END: usize = ID + 16;
+// The bytes of the id, and where it ends.
+const ID_SIZE: usize = 16;
+
+const ID_END: usize = ID + ID_SIZE;
 
 // Where the longest tag table ends.
 const MAX_TABLE_END: usize = HEADER_SIZE + 4 + MAX_TAGS * ENTRY_SIZE;
@@ -81,7 +83,7 @@ fn put_blank_front(laid: &mut [u8], file: &[u8], at: usize)
 {
     buffer::put_bytes(laid, 0, &file[..at]);
     words::put_u32_be(laid, INTENT, 0);
-    buffer::put_zeros(laid, ID, ID_END - ID);
+    buffer::put_zeros(laid, ID, ID_SIZE);
 }
 
 // A file compared with the layout of the one plan that it can have. Its header and its tag table are those of the plan, so only the rest is laid out.

@@ -45,7 +45,6 @@ put-blank-front-spec =
     slice-aggregate-put-bytes
     put-bytes-requires
     (λ c κs. search needs)
-    (λ c. search needs)
     (λ c κs. search needs)
     (λ c. search needs)
     returns)
