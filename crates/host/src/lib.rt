@@ -2,11 +2,6 @@
 // file as bytes, and the output is lent. A call that writes answers the profile's length (284 or more) or a number below 100, and then the output
 // is unchanged; one that reads answers 0 or a number, and then the lent record is unchanged.
 use color_encoding::EncodingCode;
-use color_encoding::JxlColorEncoding;
-use color_encoding::JxlPrimaries;
-use color_encoding::JxlTransferFunction;
-use color_encoding::JxlWhitePoint;
-use color_encoding::RenderingIntent;
 use job::JobAnswer;
 use job_output::JobProfile;
 use writer::Profile;
@@ -47,13 +42,8 @@ pub extern "C" fn merqyduk_write_gray(
 ) -> u32
     ensures { λ r. ⌜ WritesCode (grayFrom (whitePointFrom white wx wy) (transferFunctionFrom curve gamma) (intentFrom intent)) (now (out .entry)) (now (out .exit)) r ⌝ }
 {
-    let curve = JxlTransferFunction::from_number(curve, gamma);
     write(
-        encoding_codes::gray_from_codes(
-            JxlWhitePoint::from_number(white, wx, wy),
-            curve,
-            RenderingIntent::from_number(intent),
-        ),
+        encoding_codes::gray_from_numbers(white, wx, wy, curve, gamma, intent),
         out,
     )
 }
@@ -78,11 +68,20 @@ pub extern "C" fn merqyduk_write_rgb(
     ensures { λ r. ⌜ WritesCode (rgbFrom (whitePointFrom white wx wy) (primariesFrom primaries rx ry gx gy bx by) (transferFunctionFrom curve gamma) (intentFrom intent)) (now (out .entry)) (now (out .exit)) r ⌝ }
 {
     write(
-        encoding_codes::rgb_from_codes(
-            JxlWhitePoint::from_number(white, wx, wy),
-            JxlPrimaries::from_number(primaries, rx, ry, gx, gy, bx, by),
-            JxlTransferFunction::from_number(curve, gamma),
-            RenderingIntent::from_number(intent),
+        encoding_codes::rgb_from_numbers(
+            white,
+            wx,
+            wy,
+            primaries,
+            rx,
+            ry,
+            gx,
+            gy,
+            bx,
+            by,
+            curve,
+            gamma,
+            intent,
         ),
         out,
     )
@@ -92,10 +91,7 @@ pub extern "C" fn merqyduk_write_rgb(
 pub extern "C" fn merqyduk_write_xyb(intent: u32, out: &mut [u8]) -> u32
     ensures { λ r. ⌜ WritesCode (xybFrom (intentFrom intent)) (now (out .entry)) (now (out .exit)) r ⌝ }
 {
-    write(
-        encoding_codes::xyb_from_code(RenderingIntent::from_number(intent)),
-        out,
-    )
+    write(encoding_codes::xyb_from_number(intent), out)
 }
 
 // ---- jobs
