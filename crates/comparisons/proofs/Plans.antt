@@ -79,7 +79,7 @@ module _ (f : List ℕ) (p : Numbers) (t : List ℕ) (c : Candidate f p t) where
       of-content xyb = refl
 
   -- header and tag table of the file, with the intent and the id zero, are those of the plan
-  pub blank-front : (at : ℕ) → at ≡ start (slotsOf (shape (planOf p t)))
+  blank-front : (at : ℕ) → at ≡ start (slotsOf (shape (planOf p t)))
       → put (put (take at f) 64 (be32 0)) 84 (zeros 16)
       ≡ header (kind (planOf p t)) (record { size = length f; intent = 0; id = zeros 16 }) ++ table (slotsOf (shape (planOf p t)))
   blank-front at e =

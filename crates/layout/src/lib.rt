@@ -26,14 +26,13 @@ pub fn put_elements_and_id(out: &mut [u8], at: usize, size: usize, plan: Numbers
     put_intent_and_id(out, size, plan.intent);
 }
 
-// Lays a plan into the front of the output, and answers its length.
-pub fn put_plan(out: &mut [u8], plan: Numbers, text: &[u8]) -> usize
-    requires { ⌜ (ListN.length (now text) ≤ maxLetters) × (ListN.length (layout (planOf plan (now text))) ≤ ListN.length (now out)) ⌝ }
+// Lays a plan, whose layout has `size` bytes, into the front of the output, and answers that length.
+pub fn put_plan(out: &mut [u8], plan: Numbers, text: &[u8], size: usize) -> usize
+    requires { ⌜ (ListN.length (now text) ≤ maxLetters) × (size ≡ ListN.length (layout (planOf plan (now text)))) × (size ≤ ListN.length (now out)) ⌝ }
     ensures { λ r. ⌜ PutsText (now (out .entry)) 0 (layout (planOf plan (now (text .entry)))) r (now (out .exit)) ⌝ }
 {
     let kind = plan.kind;
     let shape = profile::shape_of(plan, text);
-    let size = length(shape);
     create_icc_header(out, size as u32, kind);
     let at = tag_table::put_table(out, shape);
     put_elements_and_id(out, at, size, plan, text);

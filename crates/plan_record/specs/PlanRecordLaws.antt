@@ -30,7 +30,7 @@ pub signed : Encoding 4 (λ z. le32 (twosComplement32 z)) (λ zs. le32s (map two
 unfolding le32s
 signed = record { nil = refl; cons = λ z zs. refl }
 
-pub le32s-append : (a b : List ℕ) → le32s (a ++ b) ≡ le32s a ++ le32s b
+le32s-append : (a b : List ℕ) → le32s (a ++ b) ≡ le32s a ++ le32s b
 unfolding le32s
 le32s-append [] b = refl
 le32s-append (n ∷ a) b = ap (λ (l : List ℕ). le32 n ++ l) (le32s-append a b) ∙ sym (append-assoc (le32 n) (le32s a) (le32s b))

@@ -28,10 +28,11 @@ fn put_plan(encoding: JxlColorEncoding, plan: Numbers, out: &mut [u8]) -> Profil
     let len = text.len;
     let bytes = text.bytes;
     let letters = &bytes[..len];
-    if out.len() < layout::length(profile::shape_of(plan, letters)) {
+    let size = layout::length(profile::shape_of(plan, letters));
+    if out.len() < size {
         return Profile::Refused(TOO_SHORT);
     }
-    Profile::Written(layout::put_plan(out, plan, letters) as u32)
+    Profile::Written(layout::put_plan(out, plan, letters, size) as u32)
 }
 
 // Writes the profile of an encoding to the front of the output. On a refusal no byte of the output changes.

@@ -29,54 +29,44 @@ module _ (s : tie.Start) where
   letters : shape plan .letters ≤ maxLetters
   letters = letters-by (s .args .plan) (s .args .text .now) (s .pre .0)
 
+  size : s .args .size ≡ fileLength (slotsOf (shape plan))
+  size = s .pre .1 ∙ length-layout plan nines
+
   room : Fits plan (length (s .args .out .now))
-  room = fits plan _ (s .pre .1) nines letters
-
-abbrev begun : tie.After-shape-of → tie.Start
-begun c = c .before .before .before
-
-size : (c : tie.After-length) → c .length .result ≡ fileLength (slotsOf (shape (plan (begun (c .before)))))
-size c = rw (c .before .shape-of .ensures) at (c .length .ensures)
+  room = fits plan _ (omega (arith, s .pre)) nines letters
 
 shape-of-requires : tie.Need-shape-of-requires
 shape-of-requires c κs = search needs
 
-length-requires : tie.Need-length-requires
-length-requires c κs =
-    let made = c in
-    rw (made .shape-of .ensures) (letters (begun made))
+abbrev begun : tie.After-shape-of → tie.Start
+begun c = c .before .before .before
 
 cast-create-icc-header : tie.Need-cast-create-icc-header
-cast-create-icc-header c =
-    let n = c .before in
-    let made = n .before in
-    omega (arith, size n, room (begun made))
+cast-create-icc-header c = let s = begun (c .before) in omega (arith, size s, room s)
 
 create-icc-header-requires : tie.Need-create-icc-header-requires
-create-icc-header-requires c κs =
-    let made = c .before .before in
-    omega (arith, room (begun made))
+create-icc-header-requires c κs = omega (arith, room (begun (c .before)))
 
 put-table-requires : tie.Need-put-table-requires
 put-table-requires c κs =
-    let made = c .before .before .before .before .before .before in
+    let made = c .before .before .before .before .before in
     rw (made .shape-of .ensures) (letters (begun made), omega (arith, room (begun made)))
 
 module _ (c : tie.After-put-table) where
   abbrev headed : tie.After-create-icc-header
   headed = c .before .before .before .before
 
-  abbrev sized : tie.After-length
-  sized = headed .before .before
+  abbrev shaped : tie.After-shape-of
+  shaped = headed .before .before
 
   abbrev start : tie.Start
-  start = begun (sized .before)
+  start = begun shaped
 
-  front : Begun (plan start) (c .put-table .last .0) (c .put-table .result) (sized .length .result)
-      × (c .put-table .last .0 ≡ put (start .args .out .now) 0 (blank (plan start) (sized .length .result) ++ table (slotsOf (shape (plan start)))))
+  front : Begun (plan start) (c .put-table .last .0) (c .put-table .result) (start .args .size)
+      × (c .put-table .last .0 ≡ put (start .args .out .now) 0 (blank (plan start) (start .args .size) ++ table (slotsOf (shape (plan start)))))
   front =
-      begun-with (plan start) (start .args .out .now) (room start) (size sized) (rw (kind-by (start .args .plan) (start .args .text .now)) (headed .create-icc-header .ensures))
-      (rw (sized .before .shape-of .ensures) at (c .put-table .ensures))
+      begun-with (plan start) (start .args .out .now) (room start) (size start) (rw (kind-by (start .args .plan) (start .args .text .now)) (headed .create-icc-header .ensures))
+      (rw (shaped .shape-of .ensures) at (c .put-table .ensures))
 
 put-elements-and-id-requires : tie.Need-put-elements-and-id-requires
 put-elements-and-id-requires c κs = let t = c .before .before .before in (start t .pre .0, front t .0)
@@ -91,7 +81,7 @@ returns c =
     let s = start t in
     record {
       size = refl;
-      place = size (sized t) ∙ sym (length-layout (plan s) (nines s)) ∙ sym (zero-add _);
+      place = s .pre .1 ∙ sym (zero-add _);
       bytes = last .put-elements-and-id .ensures ∙ covered (plan s) (nines s) (s .args .out .now) (front t .0) (front t .1);
     }
 
@@ -100,7 +90,6 @@ put-plan-spec =
     tie.close
     (tie.spec
     shape-of-requires
-    length-requires
     cast-create-icc-header
     create-icc-header-requires
     put-table-requires

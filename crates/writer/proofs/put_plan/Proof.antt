@@ -79,7 +79,7 @@ put-plan-requires : tie.Need-put-plan-requires
 put-plan-requires c κs =
     let sized = c .before .before in
     let d = described (sized .before) in
-    (rw (text-is d) (short d), rw (passed-on d, ← size sized) (c .before .if1 .left))
+    (rw (text-is d) (short d), size sized ∙ sym (ap (λ p. length (layout p)) (passed-on d)), c .before .if1 .left)
 
 cast-t15 : tie.Need-cast-t15
 cast-t15 c =
