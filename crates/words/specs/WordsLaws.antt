@@ -15,7 +15,7 @@ use mir.Val.{SFits, ofZ, toZ}
 use mir.ValLaws.{toZ-ofZ, ofZ-toZ, ofZ-fits, toZ-fits}
 use Rattle.buffer.specs.All.{All, none, more}
 use Rattle.buffer.specs.Bytes.{zeros}
-use Rattle.words.specs.Words.{Byte, be16, be32, word16, word32, twosComplement32, signed32}
+use Rattle.words.specs.Words.{Byte, be16, be32, le32, word16, word32, twosComplement32, signed32}
 
 pub length-be16 : (n : ℕ) → length (be16 n) ≡ 2
 unfolding be16
@@ -88,6 +88,14 @@ be32-word32 a b c d ha hb hc hd =
     let high : (word16 (a ∷ b ∷ []) * 65536 + word16 (c ∷ d ∷ [])) / 65536 ≡ word16 (a ∷ b ∷ []) = omega arith in
     let low : (word16 (a ∷ b ∷ []) * 65536 + word16 (c ∷ d ∷ [])) % 65536 ≡ word16 (c ∷ d ∷ []) = omega arith in
     rw word32-halves (be32-halves _ ∙ ap₂ (λ (x y : ℕ). be16 x ++ be16 y) high low ∙ ap₂ (λ (x y : List ℕ). x ++ y) (be16-word16 a b ha hb) (be16-word16 c d hc hd))
+
+-- the number whose bytes are those of n in the other order, least significant byte first
+pub le32-swapped : (n : ℕ) → le32 (word32 (le32 n)) ≡ be32 n
+unfolding be32
+le32-swapped n = ap turned (be32-word32 (n % 256) (n / 256 % 256) (n / 65536 % 256) (n / 16777216 % 256) (omega arith) (omega arith) (omega arith) (omega arith))
+  where
+    turned : List ℕ → List ℕ
+    turned l = getD l 3 0 ∷ getD l 2 0 ∷ getD l 1 0 ∷ getD l 0 0 ∷ []
 
 -- every place of a list of bytes holds a byte; past the end it counts 0
 pub byte-at : (l : List ℕ) → All Byte l → (i : ℕ) → Byte (getD l i 0)

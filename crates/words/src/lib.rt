@@ -50,14 +50,6 @@ pub fn put_u16_be(out: &mut [u8], at: usize, value: u16) -> usize
     at + 2
 }
 
-pub fn put_u32_be(out: &mut [u8], at: usize, value: u32) -> usize
-    requires { ⌜ at + 4 ≤ length (now out) ⌝ }
-    ensures { λ r. ⌜ Puts (now (out .entry)) at 4 (be32 value) r (now (out .exit)) ⌝ }
-{
-    let next = put_u16_be(&mut *out, at, (value / 65536) as u16);
-    put_u16_be(&mut *out, next, (value % 65536) as u16)
-}
-
 // The least significant byte first.
 pub fn put_u32_le(out: &mut [u8], at: usize, value: u32) -> usize
     requires { ⌜ at + 4 ≤ length (now out) ⌝ }
@@ -68,6 +60,24 @@ pub fn put_u32_le(out: &mut [u8], at: usize, value: u32) -> usize
     out[at + 2] = (value / 65536 % 256) as u8;
     out[at + 3] = (value / 16777216 % 256) as u8;
     at + 4
+}
+
+// The number with its bytes in the other order.
+fn swapped(value: u32) -> u32
+    ensures { λ r. ⌜ r ≡ word32 (le32 value) ⌝ }
+{
+    value % 256 * 16777216
+        + value / 256 % 256 * 65536
+        + value / 65536 % 256 * 256
+        + value / 16777216 % 256
+}
+
+// In this form the compiler stores the word at once; it does not where the four stores begin with the most significant byte.
+pub fn put_u32_be(out: &mut [u8], at: usize, value: u32) -> usize
+    requires { ⌜ at + 4 ≤ length (now out) ⌝ }
+    ensures { λ r. ⌜ Puts (now (out .entry)) at 4 (be32 value) r (now (out .exit)) ⌝ }
+{
+    put_u32_le(out, at, swapped(value))
 }
 
 // Writes value at pos and answers true; where it does not fit, answers false and leaves the slice unchanged.
