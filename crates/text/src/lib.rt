@@ -24,7 +24,7 @@ ghost use Rattle.text.specs.Description.{underscore, rgbText, grayText, 
 ghost use Rattle.text.specs.Written.{PutsDescription, Describes};
 
 // The most bytes of a description.
-const MAX_BYTES: usize = 449;
+pub const MAX_BYTES: usize = 449;
 
 // A description: the first `len` bytes; zeros after it.
 pub struct Text {
@@ -125,7 +125,8 @@ fn put_rgb(
     put_bytes(out, 0, &letters[..len])
 }
 
-fn put_description(out: &mut [u8], encoding: JxlColorEncoding) -> usize
+// The description of an encoding, put to the front of a slice that has room for any; answers its length.
+pub fn put_description(out: &mut [u8], encoding: JxlColorEncoding) -> usize
     requires { ⌜ maxBytes ≤ length (now out) ⌝ }
     ensures { λ r. ⌜ PutsDescription (WhiteInRange encoding) (description encoding) (now (out .entry)) r (now (out .exit)) ⌝ }
 {

@@ -24,9 +24,8 @@ fn put_plan(encoding: JxlColorEncoding, plan: Numbers, out: &mut [u8]) -> Profil
     requires { ⌜ WhiteInRange encoding ⌝ }
     ensures { λ r. ⌜ Writes (λ p. p) (is (Plans.planOf plan (description encoding))) (now (out .entry)) (now (out .exit)) r ⌝ }
 {
-    let text = text::get_color_encoding_description(encoding);
-    let len = text.len;
-    let bytes = text.bytes;
+    let mut bytes = [0u8; text::MAX_BYTES];
+    let len = text::put_description(&mut bytes, encoding);
     let letters = &bytes[..len];
     let size = layout::length(profile::shape_of(plan, letters));
     if out.len() < size {
