@@ -16,7 +16,7 @@ use lib.Ieee.Nearest.{closest, closest-mono}
 use Rattle.buffer.specs.BoolLaws.{both-left}
 use Rattle.floats.specs.Binary32.{zero as zero32, one as one32}
 use Rattle.floats.specs.RoundingLaws.{closest-le}
-use Rattle.digits.specs.DigitsLaws.{length-last, length-digits}
+use Rattle.digits.specs.DigitsLaws.{length-last, length-digits, digits-small}
 use Rattle.decimal.specs.Seven.{minus, withPoint, sevenDecimals}
 
 -- ---- lengths
@@ -29,6 +29,11 @@ length-minus false = lit≤ tt
 length-withPoint : (k q : ℕ) → q / 10 ^ 7 < 10 ^ suc k → length (withPoint q) ≤ k + 9
 unfolding withPoint
 length-withPoint k q h = simp (length-append, length-last 7 q) (omega (arith, length-digits k (q / 10 ^ 7) h))
+
+-- with one
+one-digit : (q : ℕ) → q / 10 ^ 7 < 10 → length (withPoint q) ≡ 9
+unfolding withPoint
+one-digit q h = simp (length-append, length-last 7 q, digits-small (q / 10 ^ 7) h)
 
 finite-range : (m d : ℕ) → 0 < d → m < 2 ^ 128 * d → closest (m * 10 ^ 7) d / 10 ^ 7 < 10 ^ 39
 finite-range m d D h = lt-of-le-of-lt (whole (closest (m * 10 ^ 7) d) (closest-le (m * 10 ^ 7) d (2 ^ 128 * 10 ^ 7) D (lt-of-lt-of-le (mul-lt-mul-of-pos-right {k = 10 ^ 7} h (lit< tt)) (le-of-eq (mul-right-comm (2 ^ 128) d (10 ^ 7)))))) (lit< {m = 2 ^ 128} {n = 10 ^ 39} tt)
@@ -44,8 +49,8 @@ finite-below s (suc m) e h = ltb→lt (suc m * up e) (2 ^ 128 * down e) (and-r (
 signed : (s : Bool) (q n : ℕ) → length (withPoint q) ≤ n → length (minus s ++ withPoint q) ≤ 1 + n
 signed s q n h = simp length-append (omega (arith, length-minus s))
 
-unsigned : (s : Bool) (q : ℕ) → s ≡ false → length (withPoint q) ≤ 9 → length (minus s ++ withPoint q) ≤ 9
-unsigned s q e h = subst (λ (t : Bool). length (minus t ++ withPoint q) ≤ 9) (sym e) h
+unsigned : (s : Bool) (q : ℕ) → s ≡ false → length (withPoint q) ≡ 9 → length (minus s ++ withPoint q) ≡ 9
+unsigned s q e h = subst (λ (t : Bool). length (minus t ++ withPoint q) ≡ 9) (sym e) h
 
 -- "-", 39 digits, ".", 7 digits
 pub length-seven : (x : Float) → T (fits binary32 x) → length (sevenDecimals x) ≤ 48
@@ -104,7 +109,8 @@ above : (x : Float) → lt zero32 x ≡ true → le zero32 x ≡ true
 unfolding le
 above x h = ap (λ (b : Bool). b || eq zero32 x) h
 
-pub length-positive-unit : (x : Float) → lt zero32 x ≡ true → le x one32 ≡ true → length (sevenDecimals x) ≤ 9
+-- a digit, ".", 7 digits
+pub length-positive-unit : (x : Float) → lt zero32 x ≡ true → le x one32 ≡ true → length (sevenDecimals x) ≡ 9
 unfolding sevenDecimals le lt eq ofBits
 length-positive-unit nan f g = absurd (true≢false (sym f))
 length-positive-unit (inf true) f g = absurd (true≢false (sym f))
@@ -112,4 +118,4 @@ length-positive-unit (inf false) f g = absurd (true≢false (sym g))
 length-positive-unit (fin s m e) f g =
     let q = closest (m * up e * 10 ^ 7) (down e) in
     unsigned s q (positive s (0 * up (pos 0) * down e) (m * up e * 1) f)
-    (length-withPoint 0 q (at-most-one (m * up e) (down e) (down-pos e) (small s m e (above (fin s m e) f) g)))
+    (one-digit q (at-most-one (m * up e) (down e) (down-pos e) (small s m e (above (fin s m e) f) g)))

@@ -26,7 +26,7 @@ use Rattle.decimal.specs.AsciiLaws.{append, written, ascii-seven}
 use Rattle.decimal.specs.Seven.{sevenDecimals}
 use Rattle.decimal.specs.SevenLaws.{length-seven, length-unit, length-positive-unit}
 use Rattle.text.specs.Description.{comma, semicolon, underscore, pair, whiteName, primariesName, transferName, matches, rgbText, grayText, xybText, rgbDescription, sRGB, displayP3, rec2100PQ, rec2100HLG}
-use native.Mathlib.Nat.{le-trans}
+use native.Mathlib.Nat.{le-trans, le-of-eq}
 use Rattle.text.specs.Held.{Held, HeldWhite, HeldPrimaries, HeldTransfer, InRange}
 use Rattle.text.specs.Written.{Short}
 
@@ -53,7 +53,7 @@ length-white-in-range W.E h = lit≤ tt
 length-white-in-range W.DCI h = lit≤ tt
 length-white-in-range (W.Chromaticity wx wy) h =
     let in-range = within (whiteXy (W.Chromaticity wx wy)) h in
-    length-pair 59 wx wy 10 9 (length-unit wx (in-range .x-from) (in-range .x-to)) (length-positive-unit wy (in-range .y-above) (in-range .y-to))
+    length-pair 59 wx wy 10 9 (length-unit wx (in-range .x-from) (in-range .x-to)) (le-of-eq (length-positive-unit wy (in-range .y-above) (in-range .y-to)))
 
 three-pairs : (a b c : List ℕ) → length a ≤ 97 → length b ≤ 97 → length c ≤ 97 → length (a ++ semicolon ++ b ++ semicolon ++ c) ≤ 293
 three-pairs a b c h g f = simp length-append (omega arith)
