@@ -32,7 +32,7 @@ pub fn put_plan(out: &mut [u8], plan: Numbers, text: &[u8], size: usize) -> usiz
     ensures { λ r. ⌜ PutsText (now (out .entry)) 0 (layout (planOf plan (now (text .entry)))) r (now (out .exit)) ⌝ }
 {
     let kind = plan.kind;
-    let shape = profile::shape_of(plan, text);
+    let shape = profile::shape_of(plan, text.len());
     create_icc_header(out, size as u32, kind);
     let at = tag_table::put_table(out, shape);
     put_elements_and_id(out, at, size, plan, text);

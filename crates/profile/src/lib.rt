@@ -1,6 +1,9 @@
 // The profiles: a plan and its layout are definitions (specs/). Here are a plan by value and its shape. The crate `elements` writes the tag data
 // elements, and `layout` lays out whole plans.
+ghost use Prim.Native.Nat.{ℕ};
 ghost use mathlib.Core.Path.{_≡_};
+ghost use mathlib.Core.List.{List};
+ghost use lib.ListN.{length};
 ghost use Rattle.profile.specs.Numbers as Plans;
 ghost use Rattle.profile.specs.Shape as Shapes;
 
@@ -141,9 +144,9 @@ fn has_cicp(cicp: Cicp) -> bool
     }
 }
 
-// The shape of a plan with this text.
-pub fn shape_of(plan: Numbers, text: &[u8]) -> Shape
-    ensures { λ r. ⌜ r ≡ Shapes.shape (Plans.planOf plan (now (text .entry))) ⌝ }
+// The shape of a plan with a text of so many letters.
+pub fn shape_of(plan: Numbers, letters: usize) -> Shape
+    ensures { λ r. ⌜ ((text : List ℕ) → letters ≡ length text → r ≡ Shapes.shape (Plans.planOf plan text)) ⌝ }
 {
     let kind = plan.kind;
     let curve = plan.curve;
@@ -151,13 +154,13 @@ pub fn shape_of(plan: Numbers, text: &[u8]) -> Shape
     match kind {
         Kind::Gray => Shape {
             kind: Kind::Gray,
-            letters: text.len(),
+            letters,
             gamma: is_gamma(curve),
             cicp: false,
         },
         Kind::Rgb => Shape {
             kind: Kind::Rgb,
-            letters: text.len(),
+            letters,
             gamma: is_gamma(curve),
             cicp: has_cicp(cicp),
         },

@@ -41,6 +41,9 @@ shape-of-requires c κs = search needs
 abbrev begun : tie.After-shape-of → tie.Start
 begun c = c .before .before .before
 
+shape-is : (c : tie.After-shape-of) → c .shape-of .result ≡ shape (plan (begun c))
+shape-is c = c .shape-of .ensures (begun c .args .text .now) refl
+
 cast-create-icc-header : tie.Need-cast-create-icc-header
 cast-create-icc-header c = let s = begun (c .before) in omega (arith, size s, room s)
 
@@ -50,7 +53,7 @@ create-icc-header-requires c κs = omega (arith, room (begun (c .before)))
 put-table-requires : tie.Need-put-table-requires
 put-table-requires c κs =
     let made = c .before .before .before .before .before in
-    rw (made .shape-of .ensures) (letters (begun made), omega (arith, room (begun made)))
+    rw (shape-is made) (letters (begun made), omega (arith, room (begun made)))
 
 module _ (c : tie.After-put-table) where
   abbrev headed : tie.After-create-icc-header
@@ -66,7 +69,7 @@ module _ (c : tie.After-put-table) where
       × (c .put-table .last .0 ≡ put (start .args .out .now) 0 (blank (plan start) (start .args .size) ++ table (slotsOf (shape (plan start)))))
   front =
       begun-with (plan start) (start .args .out .now) (room start) (size start) (rw (kind-by (start .args .plan) (start .args .text .now)) (headed .create-icc-header .ensures))
-      (rw (shaped .shape-of .ensures) at (c .put-table .ensures))
+      (rw (shape-is shaped) at (c .put-table .ensures))
 
 put-elements-and-id-requires : tie.Need-put-elements-and-id-requires
 put-elements-and-id-requires c κs = let t = c .before .before .before in (start t .pre .0, front t .0)

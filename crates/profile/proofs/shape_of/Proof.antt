@@ -23,13 +23,13 @@ enum-told-3 : tie.Need-enum-told-3
 enum-told-3 c = search needs
 
 returns : tie.Need-returns
-returns c = rw (c .before .enum-told .given .1, c .is-gamma .ensures)
+returns c text e = rw (c .before .enum-told .given .1, c .is-gamma .ensures, e)
 
 returns-2 : tie.Need-returns-2
-returns-2 c = rw (c .before .before .enum-told2 .given .1, c .before .is-gamma2 .ensures, c .has-cicp .ensures)
+returns-2 c text e = rw (c .before .before .enum-told2 .given .1, c .before .is-gamma2 .ensures, c .has-cicp .ensures, e)
 
 returns-3 : tie.Need-returns-3
-returns-3 c = rw (c .enum-told3 .given .1)
+returns-3 c text e = rw (c .enum-told3 .given .1)
 
 pub shape-of-spec : {M : Type 1} → statement M
 shape-of-spec =
