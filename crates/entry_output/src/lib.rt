@@ -35,8 +35,7 @@ pub struct Line {
 fn measure(encoding: JxlColorEncoding) -> Profile
     ensures { λ r. ⌜ r ≡ enough (planOf encoding) ⌝ }
 {
-    let mut scratch = [0u8; MAX_WRITTEN];
-    writer::maybe_create_profile(encoding, &mut scratch)
+    writer::profile_length(encoding, MAX_WRITTEN)
 }
 
 fn put_answer(out: &mut [u8], at: usize, answer: Profile) -> usize

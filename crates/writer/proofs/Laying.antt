@@ -1,21 +1,28 @@
--- What laying a plan out answers and leaves, from what `text` and `layout` ensure. Assumes nothing.
-use Prim.Native.Nat.{ℕ, _+_, _≤_, _<_}
-use mathlib.Core.Path.{_≡_, sym, ap, _∙_}
+-- What the writer answers to a plan, and what it lays out, from what `text` and `layout` ensure. Assumes nothing.
+use Prim.Native.Nat.{ℕ, _≤_, _<_}
+use mathlib.Core.Path.{_≡_, refl, sym, ap, _∙_, subst}
+use mathlib.Core.Bool.{Bool, true, false, cond}
 use mathlib.Core.List.{List, _++_}
-use native.Mathlib.Nat.{zero-add}
 use native.Mathlib.Omega.{arith}
+use lib.Dec.{T, leb, eqb, leb→le}
 use lib.ListN.{length, take, replicate, length-append}
 use lib.Seq.{take-at}
 use mir.Syntax.{w32}
 use mir.Val.{Fits}
 use borrow.Author.Tests.{le-leb, lt-leb}
-use Rattle.buffer.specs.Puts.{PutsText}
+use Rattle.buffer.specs.Buffer.{put}
+use Rattle.buffer.specs.Checked.{Checked, is, refused}
+use Rattle.buffer.specs.CheckedLaws.{never}
+use Rattle.color_encoding.specs.declared.JxlColorEncoding.{JxlColorEncoding}
+use Rattle.text.specs.Description.{description}
 use Rattle.profile.specs.Plan.{Plan, maxLetters}
+use Rattle.profile.specs.Numbers as Plans
 use Rattle.profile.specs.Shape.{shape}
 use Rattle.profile.specs.PlanLaws.{Nines, at-most}
 use Rattle.profile.specs.Layout.{layout}
 use Rattle.profile.specs.LayoutLaws.{length-layout}
-use Rattle.buffer.specs.Checked.{Checked, is, refused}
+use Rattle.encoding_plan.specs.Answers.{checkedPlan}
+use Rattle.encoding_plan.specs.declared.EncodingPlan.{EncodingPlan}
 use Rattle.writer.specs.Writer.{answer, output, Writes, tooShort}
 use Rattle.writer.specs.declared.Profile.{Profile}
 use Rattle.writer.specs.declared.Profile.the-variants.{Written, Refused}
@@ -27,29 +34,55 @@ letters d {bytes} z {n} e h = ap (take n) h ∙ take-at d _ n (sym e)
 pub letters-within : (d : List ℕ) {bytes : List ℕ} (z : ℕ) {n : ℕ} → n ≡ length d → bytes ≡ d ++ replicate z 0 → n ≤ length bytes
 letters-within d {bytes} z {n} e h = rw (h, e, length-append) (omega arith)
 
--- ---- a layout fits 32 bits
-
-pub short-layout : (p : Plan) → Nines (p .content) → shape p .letters ≤ maxLetters → {r : ℕ} → r ≡ 0 + length (layout p) → Fits w32 r
+-- a layout's length fits 32 bits
+pub short-layout : (p : Plan) → Nines (p .content) → shape p .letters ≤ maxLetters → {r : ℕ} → r ≡ length (layout p) → Fits w32 r
 short-layout p h s {r} e = record { fits = omega (arith, e, length-layout p h, at-most (shape p) s) }
 
--- ---- the two answers; n is the length of the layout
+-- ---- the answer on an output of n bytes, where the layout has `size`
 
-pub too-short : (p : Plan) (out : List ℕ) (n : ℕ) → n ≡ length (layout p) → length out < n → Writes (λ r. r) (is p) out out (Refused tooShort)
-too-short p out n e h =
-    let less : length out < length (layout p) = rw e at h in
-    record { answer = simp (lt-leb _ _ less); output = simp (lt-leb _ _ less) }
+pub too-short : (p : Plan) (n size : ℕ) → size ≡ length (layout p) → n < size → Refused tooShort ≡ answer (is p) n
+too-short p n size e h = let less : n < length (layout p) = rw e at h in simp (lt-leb _ _ less)
 
-pub laid-out :
-    (p : Plan) (out left : List ℕ) (n r : ℕ) → n ≡ length (layout p) → n ≤ length out →
-    PutsText out 0 (layout p) r left → Writes (λ r. r) (is p) out left (Written r)
-laid-out p out left n r e h w =
-    let room : length (layout p) ≤ length out = rw e at h in
-    record { answer = ap Written (w .place ∙ zero-add _) ∙ simp (le-leb _ _ room); output = w .bytes ∙ simp (le-leb _ _ room) }
+pub enough : (p : Plan) (n size : ℕ) → size ≡ length (layout p) → size ≤ n → Written size ≡ answer (is p) n
+enough p n size e h = let room : length (layout p) ≤ n = rw e at h in ap Written e ∙ simp (le-leb _ _ room)
 
--- ---- the answer of a plan that is known
+-- ---- what an answer tells
 
-pub refusal : {p : Checked Plan} {k : ℕ} (out : List ℕ) → p ≡ refused k → Writes (λ r. r) p out out (Refused k)
-refusal {p} {k} out e = record { answer = sym (ap (λ (q : Checked Plan). answer q (length out)) e); output = sym (ap (λ (q : Checked Plan). output q out) e) }
+-- where it is a length, there is a plan, whose layout has it and fits
+pub record Accepted (c : Checked Plan) (n size : ℕ) : Type 0 where
+  pub plan : Plan
+  pub is-plan : c ≡ is plan
+  pub size-is : size ≡ length (layout plan)
+  pub room : size ≤ n
 
-pub plan-known : {p q : Checked Plan} {out left : List ℕ} {r : Profile} → p ≡ q → Writes (λ r. r) q out left r → Writes (λ r. r) p out left r
-plan-known e w = rw e w
+pub accepted : (c : Checked Plan) (n size : ℕ) → answer c n ≡ Written size → Accepted c n size
+accepted (refused k) n size e = absurd (let zero-one : _≡_ {A = ℕ} 0 1 = cc in omega arith)
+accepted (is p) n size e = go (leb (length (layout p)) n) refl e
+  where
+    go : (b : Bool) → leb (length (layout p)) n ≡ b → cond b (Written (length (layout p))) (Refused tooShort) ≡ Written size → Accepted (is p) n size
+    go true h e = let same : size ≡ length (layout p) = cc in record { plan = p; is-plan = refl; size-is = same; room = rw same (leb→le (length (layout p)) n (subst T (sym h) tt)) }
+    go false h e = absurd (let zero-one : _≡_ {A = ℕ} 0 1 = cc in omega arith)
+
+-- the numbers that were worked out are that plan's
+pub same-plan : (r : EncodingPlan) (e : JxlColorEncoding) {p : Plan} → checkedPlan r e ≡ is p → Plans.planOf (r .plan) (description e) ≡ p
+same-plan r e {p} h = go (eqb (r .refusal) 0) h
+  where
+    go : (b : Bool) → cond b (is (Plans.planOf (r .plan) (description e))) (refused (r .refusal)) ≡ is p → Plans.planOf (r .plan) (description e) ≡ p
+    go true h = cc
+    go false h = absurd (never h)
+
+-- ---- what is left in the output
+
+pub laid-out : (c : Checked Plan) (out left : List ℕ) {size : ℕ} (a : Accepted c (length out) size) → left ≡ put out 0 (layout (a .plan)) → left ≡ output c out
+laid-out c out left {size} a h =
+    let room : length (layout (a .plan)) ≤ length out = rw (a .size-is) at (a .room) in
+    rw (a .is-plan) (h ∙ simp (le-leb _ _ room))
+
+-- on a refusal nothing is
+pub untouched : (c : Checked Plan) (out : List ℕ) {k : ℕ} → answer c (length out) ≡ Refused k → out ≡ output c out
+untouched (refused j) out e = refl
+untouched (is p) out {k} e = go (leb (length (layout p)) (length out)) e
+  where
+    go : (b : Bool) → cond b (Written (length (layout p))) (Refused tooShort) ≡ Refused k → out ≡ cond b (put out 0 (layout p)) out
+    go true e = absurd (let zero-one : _≡_ {A = ℕ} 0 1 = cc in omega arith)
+    go false e = refl

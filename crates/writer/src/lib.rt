@@ -1,11 +1,18 @@
-// The writer of profiles: `maybe_create_profile` of api/color.rs.
+// The writer of profiles: `maybe_create_profile` of api/color.rs, and what it would answer, without an output.
 use color_encoding::JxlColorEncoding;
+use encoding_plan::EncodingPlan;
 use profile::Numbers;
+ghost use mathlib.Core.Path.{_≡_};
+ghost use lib.ListN.{length};
+ghost use Prim.Native.Nat.{_≤_};
+ghost use Rattle.buffer.specs.Buffer.{put};
+ghost use Rattle.profile.specs.Layout.{layout};
 ghost use Rattle.profile.specs.Numbers as Plans;
 ghost use Rattle.text.specs.Description.{description};
 ghost use Rattle.text.specs.Held.{WhiteInRange};
-ghost use Rattle.buffer.specs.Checked.{is};
-ghost use Rattle.writer.specs.Writer.{Writes, Creates};
+ghost use Rattle.encoding_plan.specs.Answers.{checkedPlan};
+ghost use Rattle.encoding_plan.specs.PlanOf.{planOf};
+ghost use Rattle.writer.specs.Writer.{answer, Measures, Creates};
 
 // The refusal of an output that is shorter than what is to be written.
 pub const TOO_SHORT: u32 = 9;
@@ -19,19 +26,38 @@ pub enum Profile {
     Refused(u32),
 }
 
-// Lays the plan of an encoding out, where the output has room for it.
-fn put_plan(encoding: JxlColorEncoding, plan: Numbers, out: &mut [u8]) -> Profile
-    requires { ⌜ WhiteInRange encoding ⌝ }
-    ensures { λ r. ⌜ Writes (λ p. p) (is (Plans.planOf plan (description encoding))) (now (out .entry)) (now (out .exit)) r ⌝ }
+// What the writer answers where the output has `capacity` bytes. Here alone it is decided.
+fn answer(encoding: JxlColorEncoding, planned: EncodingPlan, capacity: usize) -> Profile
+    requires { ⌜ checkedPlan planned encoding ≡ planOf encoding ⌝ }
+    ensures { λ r. ⌜ r ≡ answer (planOf encoding) capacity ⌝ }
+{
+    if planned.refusal != 0 {
+        return Profile::Refused(planned.refusal);
+    }
+    let plan = planned.plan;
+    let letters = description_length::description_length(encoding);
+    let size = layout::length(profile::shape_of(plan, letters));
+    if capacity < size {
+        return Profile::Refused(TOO_SHORT);
+    }
+    Profile::Written(size as u32)
+}
+
+// Lays the plan of an encoding out, whose profile has `size` bytes.
+fn put_profile(encoding: JxlColorEncoding, plan: Numbers, size: usize, out: &mut [u8])
+    requires { ⌜ WhiteInRange encoding × (size ≡ length (layout (Plans.planOf plan (description encoding)))) × (size ≤ length (now out)) ⌝ }
+    ensures { λ _. ⌜ now (out .exit) ≡ put (now (out .entry)) 0 (layout (Plans.planOf plan (description encoding))) ⌝ }
 {
     let mut bytes = [0u8; text::MAX_BYTES];
     let len = text::put_description(&mut bytes, encoding);
-    let letters = &bytes[..len];
-    let size = layout::length(profile::shape_of(plan, letters));
-    if out.len() < size {
-        return Profile::Refused(TOO_SHORT);
-    }
-    Profile::Written(layout::put_plan(out, plan, letters, size) as u32)
+    layout::put_plan(out, plan, &bytes[..len], size);
+}
+
+// What `maybe_create_profile` answers where the output has `capacity` bytes: the profile's length, before there is memory for it.
+pub fn profile_length(encoding: JxlColorEncoding, capacity: usize) -> Profile
+    ensures { λ r. ⌜ Measures encoding capacity r ⌝ }
+{
+    answer(encoding, encoding_plan::plan_of(encoding), capacity)
 }
 
 // Writes the profile of an encoding to the front of the output. On a refusal no byte of the output changes.
@@ -39,9 +65,10 @@ pub fn maybe_create_profile(encoding: JxlColorEncoding, out: &mut [u8]) -> Profi
     ensures { λ r. ⌜ Creates encoding (now (out .entry)) (now (out .exit)) r ⌝ }
 {
     let planned = encoding_plan::plan_of(encoding);
-    if planned.refusal != 0 {
-        return Profile::Refused(planned.refusal);
+    let answered = answer(encoding, planned, out.len());
+    if let Profile::Written(size) = answered {
+        let plan = planned.plan;
+        put_profile(encoding, plan, size as usize, out);
     }
-    let plan = planned.plan;
-    put_plan(encoding, plan, out)
+    answered
 }
