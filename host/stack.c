@@ -36,6 +36,18 @@ static void rgb(struct arguments *a) {
 
 static void xyb(struct arguments *a) { merqyduk_write_xyb(a->intent, a->out, sizeof a->out); }
 
+static void length_gray(struct arguments *a) {
+    merqyduk_length_gray(a->white, a->floats[0], a->floats[1], a->curve, a->floats[8], a->intent, sizeof a->out);
+}
+
+static void length_rgb(struct arguments *a) {
+    const float *f = a->floats;
+    merqyduk_length_rgb(a->white, f[0], f[1], a->primaries, f[2], f[3], f[4], f[5], f[6], f[7], a->curve, f[8], a->intent,
+                        sizeof a->out);
+}
+
+static void length_xyb(struct arguments *a) { merqyduk_length_xyb(a->intent, sizeof a->out); }
+
 static void job(struct arguments *a) {
     uint32_t entries;
     merqyduk_job(a->job, a->job_len, &entries);
@@ -107,9 +119,17 @@ int main(void) {
     static const struct {
         const char *name;
         call *make;
-    } calls[] = {{"nothing", nothing},         {"merqyduk_write_gray", gray}, {"merqyduk_write_rgb", rgb},
-                 {"merqyduk_write_xyb", xyb}, {"merqyduk_job", job},         {"merqyduk_job_profile", job_profile},
-                 {"merqyduk_read", read_plan}, {"merqyduk_find", find}};
+    } calls[] = {{"nothing", nothing},
+                 {"merqyduk_write_gray", gray},
+                 {"merqyduk_write_rgb", rgb},
+                 {"merqyduk_write_xyb", xyb},
+                 {"merqyduk_length_gray", length_gray},
+                 {"merqyduk_length_rgb", length_rgb},
+                 {"merqyduk_length_xyb", length_xyb},
+                 {"merqyduk_job", job},
+                 {"merqyduk_job_profile", job_profile},
+                 {"merqyduk_read", read_plan},
+                 {"merqyduk_find", find}};
     enum { CALLS = sizeof calls / sizeof calls[0], ENCODINGS = 10000 };
     size_t most[CALLS] = {0};
     static struct arguments a;

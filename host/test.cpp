@@ -1,5 +1,5 @@
-// Calls the entries of include/merqyduk.h as a board would: the examples of 01, outputs of every length up to the profile's, outputs, jobs and
-// files that end at a page that may not be touched, numbers without meaning, and jobs that are cut or have bytes left. Reads each profile back,
+// Calls the entries of include/merqyduk.h as a board would: the examples of 01, outputs of every length up to the profile's, and the length told
+// without an output for each of them, outputs, jobs and files that end at a page that may not be touched, numbers without meaning, and jobs that are cut or have bytes left. Reads each profile back,
 // finds its elements, and has files refused by each number. Writes the accepted profiles into the folder that it is given.
 #include "merqyduk.h"
 
@@ -21,7 +21,13 @@
 namespace {
 
 using Bytes = std::vector<uint8_t>;
-using Call = std::function<uint32_t(uint8_t *, size_t)>;
+
+// A call that writes, and, for an encoding, the one that answers the same without an output.
+struct Call {
+    std::function<uint32_t(uint8_t *, size_t)> write;
+    std::function<uint32_t(size_t)> length;
+    uint32_t operator()(uint8_t *out, size_t n) const { return write(out, n); }
+};
 
 int tried = 0;
 int failed = 0;
@@ -35,7 +41,8 @@ void expect(bool ok, const std::string &what) {
 }
 
 Call gray(uint32_t white, float wx, float wy, uint32_t curve, float gamma, uint32_t intent) {
-    return [=](uint8_t *out, size_t n) { return merqyduk_write_gray(white, wx, wy, curve, gamma, intent, out, n); };
+    return {[=](uint8_t *out, size_t n) { return merqyduk_write_gray(white, wx, wy, curve, gamma, intent, out, n); },
+            [=](size_t n) { return merqyduk_length_gray(white, wx, wy, curve, gamma, intent, n); }};
 }
 
 struct Primaries {
@@ -44,14 +51,19 @@ struct Primaries {
 
 Call rgb(uint32_t white, float wx, float wy, uint32_t primaries, Primaries p, uint32_t curve, float gamma,
          uint32_t intent) {
-    return [=](uint8_t *out, size_t n) {
-        return merqyduk_write_rgb(white, wx, wy, primaries, p.rx, p.ry, p.gx, p.gy, p.bx, p.by, curve, gamma, intent,
-                                  out, n);
-    };
+    return {[=](uint8_t *out, size_t n) {
+                return merqyduk_write_rgb(white, wx, wy, primaries, p.rx, p.ry, p.gx, p.gy, p.bx, p.by, curve, gamma,
+                                          intent, out, n);
+            },
+            [=](size_t n) {
+                return merqyduk_length_rgb(white, wx, wy, primaries, p.rx, p.ry, p.gx, p.gy, p.bx, p.by, curve, gamma,
+                                           intent, n);
+            }};
 }
 
 Call xyb(uint32_t intent) {
-    return [=](uint8_t *out, size_t n) { return merqyduk_write_xyb(intent, out, n); };
+    return {[=](uint8_t *out, size_t n) { return merqyduk_write_xyb(intent, out, n); },
+            [=](size_t n) { return merqyduk_length_xyb(intent, n); }};
 }
 
 // An output of n bytes between two pages that may not be touched: it ends where the second begins, or starts where the first ends.
@@ -95,9 +107,17 @@ std::shared_ptr<Guarded> guarded(const Bytes &bytes, bool at_end) {
 
 Call entry(const Bytes &job, size_t i) {
     auto kept = guarded(job, true);
-    return [=, n = job.size()](uint8_t *out, size_t out_len) {
-        return merqyduk_job_profile(kept->data(), n, i, out, out_len);
-    };
+    return {[=, n = job.size()](uint8_t *out, size_t out_len) {
+                return merqyduk_job_profile(kept->data(), n, i, out, out_len);
+            },
+            nullptr};
+}
+
+// The length that is told for such an output, or the refusal.
+void tells(const std::string &name, uint32_t answer, size_t capacity, const Call &call) {
+    if (call.length)
+        expect(call.length(capacity) == answer,
+               name + " told " + std::to_string(answer) + " at " + std::to_string(capacity));
 }
 
 void refuses(const std::string &name, uint32_t number, const Call &call) {
@@ -105,8 +125,10 @@ void refuses(const std::string &name, uint32_t number, const Call &call) {
         Guarded out(n, true);
         expect(call(out.data(), n) == number, name + " refused " + std::to_string(number));
         expect(out.unchanged_from(0), name + " leaves the output unchanged");
+        tells(name, number, n, call);
     }
     expect(call(nullptr, 0) == number, name + " with no output");
+    tells(name, number, SIZE_MAX, call);
 }
 
 // The profile, after every shorter output was refused with 9 and left unchanged.
@@ -116,6 +138,7 @@ std::vector<uint8_t> writes(const std::string &name, uint32_t length, const Call
         Guarded out(n, n % 2 == 0);
         expect(call(out.data(), n) == 9, name + " refused 9 at " + std::to_string(n));
         expect(out.unchanged_from(0), name + " leaves a short output unchanged");
+        tells(name, 9, n, call);
     }
     std::vector<uint8_t> first;
     for (size_t n : {size_t(length), size_t(length) + 1, size_t(1200), size_t(4096)}) {
@@ -127,7 +150,9 @@ std::vector<uint8_t> writes(const std::string &name, uint32_t length, const Call
             if (first.empty()) first = profile;
             expect(first == profile, name + " is the same each time");
         }
+        tells(name, length, n, call);
     }
+    tells(name, length, SIZE_MAX, call);
     return first;
 }
 

@@ -28,6 +28,8 @@ void same(const std::string &name, const Encoding &encoding, std::uint32_t answe
         return bool(a) == (length > 0) && a.length() == length && a.refusal() == (length > 0 ? 0 : answer) &&
                std::memcmp(at, bytes, length) == 0;
     };
+    expect(holds(merqyduk::length(encoding), bytes), name + ": its length before");
+    expect(holds(merqyduk::length(encoding, MERQYDUK_MAX_PROFILE), bytes), name + ": its length before, in 1,200 bytes");
     std::uint8_t lent[MERQYDUK_MAX_PROFILE];
     expect(holds(write(encoding, lent, sizeof lent), lent), name + " into a lent output");
     std::array<std::uint8_t, MERQYDUK_MAX_PROFILE> array;
@@ -82,6 +84,8 @@ void encodings() {
     expect(display && std::memcmp(display.end() - 4, number, 4) == 0, "a display gamma of 2.2");
     std::array<std::uint8_t, 503> small;
     expect(write(Encoding::srgb(), small).refusal() == MERQYDUK_REFUSED_OUTPUT, "503 bytes for sRGB");
+    expect(length(Encoding::srgb(), 503).refusal() == MERQYDUK_REFUSED_OUTPUT, "503 bytes for sRGB, told before");
+    expect(length(Encoding::srgb(), 504).length() == 504, "504 bytes for sRGB, told before");
 }
 
 void jobs() {

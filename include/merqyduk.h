@@ -179,6 +179,18 @@ uint32_t merqyduk_write_rgb(uint32_t white, float wx, float wy, uint32_t primari
 
 uint32_t merqyduk_write_xyb(uint32_t intent, uint8_t *out, size_t out_len);
 
+/* A profile's length before there is memory for it: what the call above that writes this kind would answer on an
+ * output of `capacity` bytes, its refusals included. No output is needed or touched. With a capacity of SIZE_MAX
+ * the answer is never MERQYDUK_REFUSED_OUTPUT. */
+uint32_t merqyduk_length_gray(uint32_t white, float wx, float wy, uint32_t curve, float gamma, uint32_t intent,
+                              size_t capacity);
+
+uint32_t merqyduk_length_rgb(uint32_t white, float wx, float wy, uint32_t primaries, float rx, float ry, float gx,
+                             float gy, float bx, float by, uint32_t curve, float gamma, uint32_t intent,
+                             size_t capacity);
+
+uint32_t merqyduk_length_xyb(uint32_t intent, size_t capacity);
+
 /* A job is a list of color encodings as bytes: three sections, gray, RGB and XYB, each a count of one byte and then as
  * many entries. docs/JOB.md has the bytes; the numbers in them are those above. A job is refused as a whole: 41 and 42
  * are tested over the whole job before 43 is tested anywhere. Each call looks at the whole job again. */

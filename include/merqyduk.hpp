@@ -167,6 +167,24 @@ inline Answer write(const Encoding &e, std::uint8_t *out, std::size_t out_len) n
     return Answer(MERQYDUK_REFUSED_MEANING);
 }
 
+// What write would answer on an output of so many bytes, without an output: a profile's length before there is memory for it.
+inline Answer length(const Encoding &e, std::size_t capacity = SIZE_MAX) noexcept {
+    const std::uint32_t intent = static_cast<std::uint32_t>(e.intent);
+    switch (e.kind) {
+    case Encoding::Kind::gray:
+        return Answer(merqyduk_length_gray(e.white.kind, e.white.x, e.white.y, e.curve.kind, e.curve.gamma, intent,
+                                           capacity));
+    case Encoding::Kind::rgb: {
+        const Primaries &p = e.primaries;
+        return Answer(merqyduk_length_rgb(e.white.kind, e.white.x, e.white.y, p.kind, p.rx, p.ry, p.gx, p.gy, p.bx,
+                                          p.by, e.curve.kind, e.curve.gamma, intent, capacity));
+    }
+    case Encoding::Kind::xyb:
+        return Answer(merqyduk_length_xyb(intent, capacity));
+    }
+    return Answer(MERQYDUK_REFUSED_MEANING);
+}
+
 template <std::size_t N>
 Answer write(const Encoding &encoding, std::array<std::uint8_t, N> &out) noexcept {
     return write(encoding, out.data(), N);

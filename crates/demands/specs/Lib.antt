@@ -5,3 +5,4 @@ pub mod Told
 pub mod ToldLaws
 pub mod Demand3Laws
 pub mod Demand3
+pub mod DryCall

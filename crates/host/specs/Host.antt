@@ -27,6 +27,11 @@ pub record WritesCode (c : Checked JxlColorEncoding) (before after : List ℕ) (
   pub writes : Writes number (then c planOf) before after r
   pub told : profileBy r ≡ answer (then c planOf) (length before)
 
+-- the writer's answer on an output of n bytes, as one number, which tells it
+pub record AnswersCode (c : Checked JxlColorEncoding) (n r : ℕ) : Type 0 where
+  pub told : profileBy r ≡ answer (then c planOf) n
+  pub answer : r ≡ number (answer (then c planOf) n)
+
 -- ---- a job: how many entries it has
 
 -- 0 for a good job; 41, 42 or 43

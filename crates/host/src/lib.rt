@@ -14,7 +14,7 @@ ghost use Rattle.words.specs.Words.{be32};
 ghost use Rattle.reader_spec.specs.Read as Read;
 ghost use Rattle.reader_spec.specs.Finder as Finder;
 ghost use Rattle.reading.specs.Reading.{reading};
-ghost use Rattle.host.specs.Host.{WritesCode, CountsEntries, profileNumber, ReadsPlan, FindsElement};
+ghost use Rattle.host.specs.Host.{WritesCode, AnswersCode, CountsEntries, profileNumber, ReadsPlan, FindsElement};
 
 // ---- the profile of an encoding
 
@@ -92,6 +92,84 @@ pub extern "C" fn merqyduk_write_xyb(intent: u32, out: &mut [u8]) -> u32
     ensures { λ r. ⌜ WritesCode (xybFrom (intentFrom intent)) (now (out .entry)) (now (out .exit)) r ⌝ }
 {
     write(encoding_codes::xyb_from_number(intent), out)
+}
+
+// ---- the length of a profile, before there is memory for it
+
+fn length(code: EncodingCode, capacity: usize) -> u32
+    ensures { λ r. ⌜ AnswersCode (knownEncoding code) capacity r ⌝ }
+{
+    let EncodingCode::Known(encoding) = code else {
+        return color_encoding::UNKNOWN;
+    };
+    match writer::profile_length(encoding, capacity) {
+        Profile::Written(n) => n,
+        Profile::Refused(number) => number,
+    }
+}
+
+#[no_mangle]
+pub extern "C" fn merqyduk_length_gray(
+    white: u32,
+    wx: f32,
+    wy: f32,
+    curve: u32,
+    gamma: f32,
+    intent: u32,
+    capacity: usize,
+) -> u32
+    ensures { λ r. ⌜ AnswersCode (grayFrom (whitePointFrom white wx wy) (transferFunctionFrom curve gamma) (intentFrom intent)) capacity r ⌝ }
+{
+    length(
+        encoding_codes::gray_from_numbers(white, wx, wy, curve, gamma, intent),
+        capacity,
+    )
+}
+
+#[no_mangle]
+pub extern "C" fn merqyduk_length_rgb(
+    white: u32,
+    wx: f32,
+    wy: f32,
+    primaries: u32,
+    rx: f32,
+    ry: f32,
+    gx: f32,
+    gy: f32,
+    bx: f32,
+    by: f32,
+    curve: u32,
+    gamma: f32,
+    intent: u32,
+    capacity: usize,
+) -> u32
+    ensures { λ r. ⌜ AnswersCode (rgbFrom (whitePointFrom white wx wy) (primariesFrom primaries rx ry gx gy bx by) (transferFunctionFrom curve gamma) (intentFrom intent)) capacity r ⌝ }
+{
+    length(
+        encoding_codes::rgb_from_numbers(
+            white,
+            wx,
+            wy,
+            primaries,
+            rx,
+            ry,
+            gx,
+            gy,
+            bx,
+            by,
+            curve,
+            gamma,
+            intent,
+        ),
+        capacity,
+    )
+}
+
+#[no_mangle]
+pub extern "C" fn merqyduk_length_xyb(intent: u32, capacity: usize) -> u32
+    ensures { λ r. ⌜ AnswersCode (xybFrom (intentFrom intent)) capacity r ⌝ }
+{
+    length(encoding_codes::xyb_from_number(intent), capacity)
 }
 
 // ---- jobs
