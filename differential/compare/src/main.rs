@@ -186,15 +186,36 @@ fn calls(random: &mut Random, count: usize) -> Vec<(Encoding, usize)> {
     encodings.into_iter().map(|one| (one, room())).collect()
 }
 
+/// What is answered without an output: for `room` bytes, none, the most, as many as the answer for the most says, and one less.
+fn lengths(answer: impl Fn(usize) -> usize, room: usize) -> [usize; 5] {
+    let most = answer(usize::MAX);
+    [
+        answer(room),
+        answer(0),
+        most,
+        answer(most),
+        answer(most - 1),
+    ]
+}
+
 fn writer(run: &mut Run) {
     run.leaf(
-        "writer",
+        "writer, and the length before",
         calls,
         |(encoding, room)| {
             let profile = answer::profile(encoding);
-            Written::due(profile.as_deref().map_err(|number| *number), *room)
+            let given = profile.as_deref().map_err(|number| *number);
+            let length = |capacity| match given.and_then(|bytes| answer::within(bytes, capacity)) {
+                Ok(bytes) => bytes.len(),
+                Err(number) => number as usize,
+            };
+            (Written::due(given, *room), lengths(length, *room))
         },
-        |(encoding, room)| Written::by(|out| port::write(encoding, out) as usize, *room),
+        |(encoding, room)| {
+            let length = |capacity| port::length(encoding, capacity) as usize;
+            let written = Written::by(|out| port::write(encoding, out) as usize, *room);
+            (written, lengths(length, *room))
+        },
     );
 }
 
@@ -203,7 +224,7 @@ fn bench() {
     for (name, encoding) in bench::encodings() {
         let theirs = encoding.original().expect("these have a meaning");
         let mut output = [0u8; 1300];
-        let (mut port, mut original) = (f64::INFINITY, f64::INFINITY);
+        let (mut port, mut original, mut length) = (f64::INFINITY, f64::INFINITY, f64::INFINITY);
         for _ in 0..5 {
             original = original.min(bench::nanoseconds(|| {
                 black_box(
@@ -215,10 +236,14 @@ fn bench() {
             port = port.min(bench::nanoseconds(|| {
                 black_box(port::write(black_box(&encoding), &mut output));
             }));
+            length = length.min(bench::nanoseconds(|| {
+                black_box(port::length(black_box(&encoding), 1300));
+            }));
         }
         println!(
-            "{name}: {port:.0} ns, the original {original:.0} ns, ratio {:.2}",
-            port / original
+            "{name}: {port:.0} ns, the original {original:.0} ns, ratio {:.2}; the length before {length:.0} ns, ratio {:.2}",
+            port / original,
+            length / port
         );
     }
 }

@@ -36,6 +36,33 @@ mod entries {
             out: *mut u8,
             len: usize,
         ) -> u32;
+        pub fn merqyduk_length_xyb(intent: u32, capacity: usize) -> u32;
+        pub fn merqyduk_length_gray(
+            white: u32,
+            wx: f32,
+            wy: f32,
+            curve: u32,
+            gamma: f32,
+            intent: u32,
+            capacity: usize,
+        ) -> u32;
+        #[allow(clippy::too_many_arguments)]
+        pub fn merqyduk_length_rgb(
+            white: u32,
+            wx: f32,
+            wy: f32,
+            primaries: u32,
+            rx: f32,
+            ry: f32,
+            gx: f32,
+            gy: f32,
+            bx: f32,
+            by: f32,
+            curve: u32,
+            gamma: f32,
+            intent: u32,
+            capacity: usize,
+        ) -> u32;
         pub fn merqyduk_read(
             file: *const u8,
             file_len: usize,
@@ -315,22 +342,91 @@ pub fn find_offset(file: &[u8], signature: [u8; 4], offset: &mut u32) -> u32 {
     unsafe { entries::merqyduk_find(file.as_ptr(), file.len(), signature, offset) }
 }
 
+/// The numbers of an encoding, as the C entries take them.
+struct Arguments {
+    white: u32,
+    wx: f32,
+    wy: f32,
+    primaries: u32,
+    xy: [f32; 6],
+    curve: u32,
+    gamma: f32,
+    intent: u32,
+}
+
+impl Arguments {
+    fn of(encoding: &Encoding) -> Self {
+        Self {
+            white: encoding.white.kind.into(),
+            wx: f32::from_bits(encoding.white.wx),
+            wy: f32::from_bits(encoding.white.wy),
+            primaries: encoding.primaries.kind.into(),
+            xy: encoding.primaries.xy.map(f32::from_bits),
+            curve: encoding.curve.kind.into(),
+            gamma: f32::from_bits(encoding.curve.gamma),
+            intent: encoding.intent.into(),
+        }
+    }
+}
+
 /// The writer: a length, or a refusal number below 100.
 pub fn write(encoding: &Encoding, out: &mut [u8]) -> u32 {
-    let (white, primaries, curve) = (encoding.white, encoding.primaries, encoding.curve);
-    let (wx, wy) = (f32::from_bits(white.wx), f32::from_bits(white.wy));
-    let [rx, ry, gx, gy, bx, by] = primaries.xy.map(f32::from_bits);
-    let gamma = f32::from_bits(curve.gamma);
-    let intent = encoding.intent.into();
+    let a = Arguments::of(encoding);
+    let [rx, ry, gx, gy, bx, by] = a.xy;
     let (at, len) = (out.as_mut_ptr(), out.len());
-    let (white, primaries, curve) = (white.kind.into(), primaries.kind.into(), curve.kind.into());
     unsafe {
         match encoding.kind {
-            GRAY => entries::merqyduk_write_gray(white, wx, wy, curve, gamma, intent, at, len),
-            RGB => entries::merqyduk_write_rgb(
-                white, wx, wy, primaries, rx, ry, gx, gy, bx, by, curve, gamma, intent, at, len,
+            GRAY => entries::merqyduk_write_gray(
+                a.white, a.wx, a.wy, a.curve, a.gamma, a.intent, at, len,
             ),
-            _ => entries::merqyduk_write_xyb(intent, at, len),
+            RGB => entries::merqyduk_write_rgb(
+                a.white,
+                a.wx,
+                a.wy,
+                a.primaries,
+                rx,
+                ry,
+                gx,
+                gy,
+                bx,
+                by,
+                a.curve,
+                a.gamma,
+                a.intent,
+                at,
+                len,
+            ),
+            _ => entries::merqyduk_write_xyb(a.intent, at, len),
+        }
+    }
+}
+
+/// What the writer would answer on an output of `capacity` bytes, without an output.
+pub fn length(encoding: &Encoding, capacity: usize) -> u32 {
+    let a = Arguments::of(encoding);
+    let [rx, ry, gx, gy, bx, by] = a.xy;
+    unsafe {
+        match encoding.kind {
+            GRAY => entries::merqyduk_length_gray(
+                a.white, a.wx, a.wy, a.curve, a.gamma, a.intent, capacity,
+            ),
+            RGB => entries::merqyduk_length_rgb(
+                a.white,
+                a.wx,
+                a.wy,
+                a.primaries,
+                rx,
+                ry,
+                gx,
+                gy,
+                bx,
+                by,
+                a.curve,
+                a.gamma,
+                a.intent,
+                capacity,
+            ),
+            _ => entries::merqyduk_length_xyb(a.intent, capacity),
         }
     }
 }
