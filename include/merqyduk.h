@@ -8,7 +8,8 @@
  * MERQYDUK_MAX_PROFILE, which then stands at the front of the output; the rest of the output is unchanged. Or
  * it answers a number below 100, and all of the output is unchanged: one of MERQYDUK_REFUSED_..., or 0 where
  * the job has no such entry. Refusals are tested in this order: 41, 42, 43; then 0; then 1 to 9. An output of
- * MERQYDUK_MAX_PROFILE bytes is enough for every profile. The calls that read a file say below what they answer.
+ * MERQYDUK_MAX_PROFILE bytes is enough for every profile. A call that tells a profile's length, merqyduk_length_...,
+ * answers the same number without an output. The calls that read a file say below what they answer.
  *
  * Id. A profile's id is its bytes 84 to 99, MERQYDUK_ID_SIZE bytes from MERQYDUK_ID_OFFSET on: MD5 of the
  * profile with bytes 44 to 47, 64 to 67 and 84 to 99 zero.
@@ -39,9 +40,9 @@
 #include <stdint.h>
 
 #define MERQYDUK_VERSION_MAJOR 0
-#define MERQYDUK_VERSION_MINOR 9
+#define MERQYDUK_VERSION_MINOR 10
 #define MERQYDUK_VERSION_PATCH 0
-#define MERQYDUK_VERSION_STRING "0.9.0"
+#define MERQYDUK_VERSION_STRING "0.10.0"
 
 /* The lengths of the profiles that are written, in bytes. */
 #define MERQYDUK_MIN_PROFILE 284

@@ -23,8 +23,7 @@ use Rattle.profile.specs.Layout.{layout}
 use Rattle.profile.specs.LayoutLaws.{length-layout}
 use Rattle.encoding_plan.specs.Answers.{checkedPlan}
 use Rattle.encoding_plan.specs.declared.EncodingPlan.{EncodingPlan}
-use Rattle.writer.specs.Writer.{answer, output, Writes, tooShort}
-use Rattle.writer.specs.declared.Profile.{Profile}
+use Rattle.writer.specs.Writer.{answer, output, tooShort}
 use Rattle.writer.specs.declared.Profile.the-variants.{Written, Refused}
 
 -- the letters of a description that stands in front of zeros
@@ -48,6 +47,10 @@ enough p n size e h = let room : length (layout p) ≤ n = rw e at h in ap Writt
 
 -- ---- what an answer tells
 
+-- a refusal is no length
+differ : {k n : ℕ} → Refused k ≡ Written n → ⊥
+differ e = let zero-one : _≡_ {A = ℕ} 0 1 = cc in omega arith
+
 -- where it is a length, there is a plan, whose layout has it and fits
 pub record Accepted (c : Checked Plan) (n size : ℕ) : Type 0 where
   pub plan : Plan
@@ -56,12 +59,14 @@ pub record Accepted (c : Checked Plan) (n size : ℕ) : Type 0 where
   pub room : size ≤ n
 
 pub accepted : (c : Checked Plan) (n size : ℕ) → answer c n ≡ Written size → Accepted c n size
-accepted (refused k) n size e = absurd (let zero-one : _≡_ {A = ℕ} 0 1 = cc in omega arith)
+accepted (refused k) n size e = absurd (differ e)
 accepted (is p) n size e = go (leb (length (layout p)) n) refl e
   where
     go : (b : Bool) → leb (length (layout p)) n ≡ b → cond b (Written (length (layout p))) (Refused tooShort) ≡ Written size → Accepted (is p) n size
-    go true h e = let same : size ≡ length (layout p) = cc in record { plan = p; is-plan = refl; size-is = same; room = rw same (leb→le (length (layout p)) n (subst T (sym h) tt)) }
-    go false h e = absurd (let zero-one : _≡_ {A = ℕ} 0 1 = cc in omega arith)
+    go true h e =
+        let same : size ≡ length (layout p) = cc in
+        record { plan = p; is-plan = refl; size-is = same; room = rw same (leb→le (length (layout p)) n (subst T (sym h) tt)) }
+    go false h e = absurd (differ e)
 
 -- the numbers that were worked out are that plan's
 pub same-plan : (r : EncodingPlan) (e : JxlColorEncoding) {p : Plan} → checkedPlan r e ≡ is p → Plans.planOf (r .plan) (description e) ≡ p
@@ -84,5 +89,5 @@ untouched (refused j) out e = refl
 untouched (is p) out {k} e = go (leb (length (layout p)) (length out)) e
   where
     go : (b : Bool) → cond b (Written (length (layout p))) (Refused tooShort) ≡ Refused k → out ≡ cond b (put out 0 (layout p)) out
-    go true e = absurd (let zero-one : _≡_ {A = ℕ} 0 1 = cc in omega arith)
+    go true e = absurd (differ (sym e))
     go false e = refl

@@ -1,7 +1,5 @@
 -- By the case of the encoding. Assumes nothing.
-use mathlib.Core.Path.{sym, ap, _∙_}
 use Rattle.color_encoding.specs.IntentLaws.{length-intentName}
-use lib.ListN.{length}
 use Rattle.text.specs.Description.{description, xybText}
 use borrow.Author.Needs.{needs}
 use Rattle.description_length.proofs.description_length.Statement.{statement}

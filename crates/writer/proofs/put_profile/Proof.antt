@@ -6,7 +6,7 @@ use lib.ListN.{length, take, replicate}
 use Rattle.buffer.specs.Buffer.{put as put-front}
 use Rattle.buffer.specs.PutsLaws.{in-front}
 use Rattle.text.specs.Description.{description}
-use Rattle.profile.specs.Plan.{Plan, maxLetters}
+use Rattle.profile.specs.Plan.{maxLetters}
 use Rattle.profile.specs.Numbers.{planOf}
 use Rattle.profile.specs.Layout.{layout}
 use Rattle.writer.proofs.Laying.{letters, letters-within}
