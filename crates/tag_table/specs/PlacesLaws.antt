@@ -1,18 +1,20 @@
 -- The tags of a list of elements, walked one after another, stand where the tag table says. Assumes nothing.
-use Prim.Native.Nat.{ℕ, suc, _+_, _≤_, _<_}
+use Prim.Native.Nat.{ℕ, suc, _+_, _*_, _≤_, _<_}
 use mathlib.Core.Path.{_≡_, refl, ap, sym, _∙_}
 use mathlib.Core.Bool.{Bool, true, false, cond}
 use mathlib.Core.List.{List, [], _∷_, _++_, map}
 use native.Mathlib.Nat.{add-zero, add-assoc}
 use native.Mathlib.Numerals.{add-one}
 use native.Mathlib.Omega.{arith}
-use lib.ListN.{length, take, drop, getD, length-append, length-map, drop-of-length-le}
-use lib.Seq.{drop-cons, take-at, getD-take}
+use lib.ListN.{length, drop, getD, length-append, length-map, drop-of-length-le}
+use lib.Seq.{drop-cons, take-at, getD-take, length-take-le}
+use Rattle.buffer.specs.Puts.{Puts}
 use Rattle.buffer.specs.All.{All, none, more}
-use Rattle.profile.specs.Elements.{Slot, Entry, entry, entries, paddedSize, bodySize, tagCount, start, fileLength}
+use Rattle.words.specs.Words.{be32}
+use Rattle.profile.specs.Elements.{Slot, Entry, entry, entries, entriesBytes, paddedSize, bodySize, tagCount, headerSize, countSize, lineSize, lineStart, start, table, fileLength}
 use Rattle.profile.specs.Plan.{maxLetters}
 use Rattle.profile.specs.PlanLaws.{at-most}
-use Rattle.profile.specs.Shape.{sized, slotsFor, slotsOf, maxLength}
+use Rattle.profile.specs.Shape.{sized, slotsFor, slotsOf}
 use Rattle.profile.specs.declared.Kind.{Kind}
 use Rattle.profile.specs.declared.Kind.the-variants.{Gray, Rgb, Xyb}
 use Rattle.profile.specs.declared.Shape.{Shape}
@@ -20,7 +22,7 @@ use Rattle.tags.specs.declared.Tag.{Tag}
 use Rattle.tags.specs.declared.Tags.{Tags}
 use Rattle.tag_table.specs.declared.Place.{Place}
 use Rattle.tags.specs.Tags.{first, other, naming, tags, maxTags, listed}
-use Rattle.tag_table.specs.Places.{placed, begin}
+use Rattle.tag_table.specs.Places.{placed, begin, entryOf, walk, finish, used, endOf, tableOf, Fits}
 
 -- ---- how many tags there are
 
@@ -61,19 +63,6 @@ unfolding slotsOf
 few-tags s = rw length-tags (by-kind (s .kind) s (s .cicp) refl .1)
 
 -- ---- a walk over the tags
-
-abbrev entryOf : Place → Tag → Entry
-entryOf p t = entry (p .offset) (t .size) (t .signature)
-
--- the entries of tags, the element before them at p
-unfoldable pub walk : Place → List Tag → List Entry
-walk p [] = []
-walk p (t ∷ ts) = entryOf (placed p t) t ∷ walk (placed p t) ts
-
--- where the last element ends
-unfoldable pub finish : Place → List Tag → ℕ
-finish p [] = p .end
-finish p (t ∷ ts) = finish (placed p t) ts
 
 abbrev next : Place → ℕ → Place
 next p n = record { offset = p .end; end = p .end + paddedSize n }
@@ -167,64 +156,69 @@ module _ {ts : List Tag} {p₀ p : Place} {i : ℕ} (w : Walked ts p₀ i p) whe
     walked-next : Walked ts p₀ (i + 1) (placed p this)
     walked-next = let e = lined in record { within = omega arith; lines = cc; end = ended }
 
--- ---- the tags of a shape in an array
+-- ---- the tags of an array
 
-pub record Lists (s : Shape) (r : Tags) : Type 0 where
-  pub all : take (r .count) (r .tags) ≡ tags (slotsOf s)
-  pub count : r .count ≡ tagCount (slotsOf s)
-  pub few : r .count ≤ maxTags
+pub count-used : (r : Tags) → Fits r → length (r .tags) ≡ maxTags → length (used r) ≡ r .count
+count-used r h n = length-take-le (r .count) (r .tags) (omega (arith, h .0, n))
 
-pub lists : (s : Shape) (r : Tags) → r ≡ listed (tags (slotsOf s)) → Lists s r
-unfolding listed
-lists s r e =
-    let ts = tags (slotsOf s) in
-    let n : r .count ≡ length ts = ap (λ r. r .count) e in
-    record {
-      all = ap (λ r. take (r .count) (r .tags)) e ∙ take-at ts _ (length ts) refl;
-      count = n ∙ length-tags (slotsOf s);
-      few = omega (arith, few-tags s);
-    }
+module _ (r : Tags) (n : length (used r) ≡ r .count) {p₀ p : Place} {i : ℕ} (w : Walked (used r) p₀ i p) where
+  -- after the last tag
+  pub end-walked : p₀ ≡ begin (r .count) → r .count ≤ i → p .end ≡ endOf r
+  end-walked e h = walked-end w (omega (arith, w .within, n)) ∙ ap (λ (q : Place). finish q (used r)) e
 
-module _ {s : Shape} {r : Tags} (l : Lists s r) where
-  abbrev all : List Tag
-  all = take (r .count) (r .tags)
+  -- at a tag
+  module _ (h : i < r .count) where
+    abbrev read : Tag
+    read = getD (r .tags) i (first 0 [])
 
-  pub count-all : length all ≡ r .count
-  count-all = ap length (l .all) ∙ length-tags (slotsOf s) ∙ sym (l .count)
+    here : i < length (used r)
+    here = rw n h
 
-  finish-all : finish (begin (r .count)) all ≡ fileLength (slotsOf s)
+    same : getD (used r) i (first 0 []) ≡ read
+    same = getD-take (r .count) (r .tags) i (first 0 []) h
+
+    pub step-within : p₀ ≡ begin (r .count) → placed p read .end ≤ endOf r
+    step-within e = rw (same, e) at (walked-within w (first 0 []) here)
+
+    pub step : Walked (used r) p₀ (i + 1) (placed p read)
+    step = rw same at (walked-next w (first 0 []) here)
+
+    pub step-entry : entryOf (placed p read) read ≡ getD (walk p₀ (used r)) i (entry 0 0 [])
+    step-entry = rw same at (walked-entry w (first 0 []) here)
+
+-- ---- those of a shape
+
+module _ (s : Shape) {k : Kind} {r : Tags} (told : s .kind ≡ k) (e : r ≡ listed (tags (slotsFor k s))) where
+  of-shape : r ≡ listed (tags (slotsOf s))
+  unfolding slotsOf
+  of-shape = e ∙ ap (λ (k : Kind). listed (tags (slotsFor k s))) (sym told)
+
+  used-tags : used r ≡ tags (slotsOf s)
+  unfolding listed
+  used-tags = ap used of-shape ∙ take-at (tags (slotsOf s)) _ (length (tags (slotsOf s))) refl
+
+  count-tags : r .count ≡ tagCount (slotsOf s)
+  unfolding listed
+  count-tags = ap (λ (r : Tags). r .count) of-shape ∙ length-tags (slotsOf s)
+
+  end-tags : endOf r ≡ fileLength (slotsOf s)
   unfolding fileLength start
-  finish-all = rw (l .all, l .count) (finish-body (begin (tagCount (slotsOf s))) (slotsOf s) (named s))
+  end-tags = rw (used-tags, count-tags) (finish-body (begin (tagCount (slotsOf s))) (slotsOf s) (named s))
 
-  pub walk-all : walk (begin (r .count)) all ≡ entries (start (slotsOf s)) (slotsOf s)
+  table-tags : tableOf r ≡ table (slotsOf s)
+  unfolding table start
+  table-tags = rw (used-tags, count-tags) (ap (λ (l : List Entry). be32 (tagCount (slotsOf s)) ++ entriesBytes l) (walk-entries (begin (tagCount (slotsOf s))) (slotsOf s) (named s)))
+
+  pub fits : s .letters ≤ maxLetters → Fits r
+  fits g = (rw (count-tags, ← length-tags) (few-tags s), rw end-tags (at-most s g))
+
+  pub ends : {n : ℕ} → n ≡ endOf r → n ≡ fileLength (slotsOf s)
+  ends h = h ∙ end-tags
+
+  pub room : {n : ℕ} → start (slotsOf s) ≤ n → lineStart (r .count) ≤ n
   unfolding start
-  walk-all = rw (l .all, l .count) (walk-entries (begin (tagCount (slotsOf s))) (slotsOf s) (named s))
+  room h = rw count-tags h
 
-  module _ {p₀ p : Place} {i : ℕ} (e : p₀ ≡ begin (r .count)) (w : Walked all p₀ i p) where
-    -- after the last tag
-    pub length-walked : r .count ≤ i → p .end ≡ fileLength (slotsOf s)
-    length-walked h = walked-end w (omega (arith, w .within, count-all)) ∙ rw e finish-all
-
-    -- at a tag
-    module _ (h : i < r .count) where
-      abbrev read : Tag
-      read = getD (r .tags) i (first 0 [])
-
-      here : i < length all
-      here = rw count-all h
-
-      same : getD all i (first 0 []) ≡ read
-      same = getD-take (r .count) (r .tags) i (first 0 []) h
-
-      pub step-within : s .letters ≤ maxLetters → placed p read .end ≤ maxLength
-      step-within g =
-          let most : fileLength (slotsOf s) ≤ maxLength = at-most s g in
-          let ends : finish p₀ all ≡ fileLength (slotsOf s) = rw e finish-all in
-          let end : placed p read .end ≤ finish p₀ all = rw same at (walked-within w (first 0 []) here) in
-          omega arith
-
-      pub step : Walked all p₀ (i + 1) (placed p read)
-      step = rw same at (walked-next w (first 0 []) here)
-
-      pub step-entry : entryOf (placed p read) read ≡ getD (walk p₀ all) i (entry 0 0 [])
-      step-entry = rw same at (walked-entry w (first 0 []) here)
+  pub puts-table : {l out : List ℕ} {q : ℕ} → Puts l headerSize (countSize + lineSize * r .count) (tableOf r) q out
+      → Puts l headerSize (countSize + lineSize * tagCount (slotsOf s)) (table (slotsOf s)) q out
+  puts-table p = rw (table-tags, count-tags) at p

@@ -10,9 +10,13 @@ ghost use Rattle.profile.specs.Shape.{slotsOf, maxLength};
 ghost use Rattle.tags.specs.Tags.{maxTags};
 ghost use Rattle.tag_table.specs.Places as Places;
 use elements::write_icc_tag;
+use profile::Kind;
 use profile::Shape;
 use tags::Tag;
-use tags::tags_of;
+use tags::Tags;
+use tags::gray_tags;
+use tags::rgb_tags;
+use tags::xyb_tags;
 
 pub const HEADER_SIZE: usize = 128;
 
@@ -65,12 +69,11 @@ fn begin(count: usize) -> Place
     }
 }
 
-// How many bytes the layout of a plan of this shape has: where its last element ends.
-pub fn length(shape: Shape) -> usize
-    requires { ⌜ shape .letters ≤ maxLetters ⌝ }
-    ensures { λ r. ⌜ r ≡ Elements.fileLength (slotsOf shape) ⌝ }
+// Where the last element of the tags ends.
+fn end_of(listed: Tags) -> usize
+    requires { ⌜ Places.Fits listed ⌝ }
+    ensures { λ r. ⌜ r ≡ Places.endOf listed ⌝ }
 {
-    let listed = tags_of(shape);
     let tags = listed.tags;
     let count = listed.count;
     let mut place = begin(count);
@@ -80,6 +83,20 @@ pub fn length(shape: Shape) -> usize
         i += 1;
     }
     place.end as usize
+}
+
+// How many bytes the layout of a plan of this shape has: where its last element ends. The walk is called for each kind by itself, here and in
+// `put_table`: the compiler then works out beforehand what is constant in a kind's list, which it does not where one call takes any list.
+pub fn length(shape: Shape) -> usize
+    requires { ⌜ shape .letters ≤ maxLetters ⌝ }
+    ensures { λ r. ⌜ r ≡ Elements.fileLength (slotsOf shape) ⌝ }
+{
+    let kind = shape.kind;
+    match kind {
+        Kind::Gray => end_of(gray_tags(shape)),
+        Kind::Rgb => end_of(rgb_tags(shape)),
+        Kind::Xyb => end_of(xyb_tags(shape)),
+    }
 }
 
 fn put_tag(out: &mut [u8], at: usize, tag: Tag, offset: u32) -> usize
@@ -92,12 +109,11 @@ fn put_tag(out: &mut [u8], at: usize, tag: Tag, offset: u32) -> usize
     words::put_u32_be(out, at, tag.size)
 }
 
-// The tag table of a shape. Answers where the elements start.
-pub fn put_table(out: &mut [u8], shape: Shape) -> usize
-    requires { ⌜ (shape .letters ≤ maxLetters) × (Elements.start (slotsOf shape) ≤ ListN.length (now out)) ⌝ }
-    ensures { λ r. ⌜ Puts (now (out .entry)) headerSize (countSize + lineSize * Elements.tagCount (slotsOf shape)) (Elements.table (slotsOf shape)) r (now (out .exit)) ⌝ }
+// The table of the tags: their number and a line for each. Answers where the elements start.
+fn put_lines(out: &mut [u8], listed: Tags) -> usize
+    requires { ⌜ Places.Fits listed × (lineStart (listed .count) ≤ ListN.length (now out)) ⌝ }
+    ensures { λ r. ⌜ Puts (now (out .entry)) headerSize (countSize + lineSize * listed .count) (Places.tableOf listed) r (now (out .exit)) ⌝ }
 {
-    let listed = tags_of(shape);
     let tags = listed.tags;
     let count = listed.count;
     let mut place = begin(count);
@@ -110,4 +126,17 @@ pub fn put_table(out: &mut [u8], shape: Shape) -> usize
         i += 1;
     }
     at
+}
+
+// The tag table of a shape. Answers where the elements start.
+pub fn put_table(out: &mut [u8], shape: Shape) -> usize
+    requires { ⌜ (shape .letters ≤ maxLetters) × (Elements.start (slotsOf shape) ≤ ListN.length (now out)) ⌝ }
+    ensures { λ r. ⌜ Puts (now (out .entry)) headerSize (countSize + lineSize * Elements.tagCount (slotsOf shape)) (Elements.table (slotsOf shape)) r (now (out .exit)) ⌝ }
+{
+    let kind = shape.kind;
+    match kind {
+        Kind::Gray => put_lines(out, gray_tags(shape)),
+        Kind::Rgb => put_lines(out, rgb_tags(shape)),
+        Kind::Xyb => put_lines(out, xyb_tags(shape)),
+    }
 }

@@ -135,7 +135,7 @@ fn curve_size(gamma: bool) -> u32
     if gamma { GAMMA_SIZE } else { CURVE_SIZE }
 }
 
-fn gray_tags(shape: Shape) -> Tags
+pub fn gray_tags(shape: Shape) -> Tags
     requires { ⌜ shape .letters ≤ maxLetters ⌝ }
     ensures { λ r. ⌜ r ≡ Listing.listed (Listing.tags (Shapes.slotsFor Kind.Gray shape)) ⌝ }
 {
@@ -161,7 +161,7 @@ fn gray_tags(shape: Shape) -> Tags
 }
 
 // The three curves of RGB are one element.
-fn rgb_tags(shape: Shape) -> Tags
+pub fn rgb_tags(shape: Shape) -> Tags
     requires { ⌜ shape .letters ≤ maxLetters ⌝ }
     ensures { λ r. ⌜ r ≡ Listing.listed (Listing.tags (Shapes.slotsFor Kind.Rgb shape)) ⌝ }
 {
@@ -206,7 +206,7 @@ fn rgb_tags(shape: Shape) -> Tags
     }
 }
 
-fn xyb_tags(shape: Shape) -> Tags
+pub fn xyb_tags(shape: Shape) -> Tags
     ensures { λ r. ⌜ r ≡ Listing.listed (Listing.tags (Shapes.slotsFor Kind.Xyb shape)) ⌝ }
 {
     let none = UNUSED;
@@ -226,18 +226,5 @@ fn xyb_tags(shape: Shape) -> Tags
             none,
             none,
         ],
-    }
-}
-
-// The tags of a profile of this shape.
-pub fn tags_of(shape: Shape) -> Tags
-    requires { ⌜ shape .letters ≤ maxLetters ⌝ }
-    ensures { λ r. ⌜ r ≡ Listing.listed (Listing.tags (Shapes.slotsOf shape)) ⌝ }
-{
-    let kind = shape.kind;
-    match kind {
-        Kind::Gray => gray_tags(shape),
-        Kind::Rgb => rgb_tags(shape),
-        Kind::Xyb => xyb_tags(shape),
     }
 }
