@@ -28,7 +28,7 @@ pub record WritesCode (c : Checked JxlColorEncoding) (before after : List ℕ) (
   pub told : profileBy r ≡ answer (then c planOf) (length before)
 
 -- the writer's answer on an output of n bytes, as one number, which tells it
-pub record AnswersCode (c : Checked JxlColorEncoding) (n r : ℕ) : Type 0 where
+pub record MeasuresCode (c : Checked JxlColorEncoding) (n r : ℕ) : Type 0 where
   pub told : profileBy r ≡ answer (then c planOf) n
   pub answer : r ≡ number (answer (then c planOf) n)
 

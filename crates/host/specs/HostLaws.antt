@@ -8,12 +8,12 @@ use Rattle.buffer.specs.Buffer.{put}
 use Rattle.buffer.specs.Checked.{is}
 use Rattle.color_encoding.specs.declared.JxlColorEncoding.{JxlColorEncoding}
 use Rattle.profile.specs.Elements.{Entry}
-use Rattle.writer.specs.Writer.{tooShort, number, profileBy, Creates, Measures}
+use Rattle.writer.specs.Writer.{tooShort, number, profileBy, Creates, MeasuresProfile}
 use Rattle.writer.specs.declared.Profile.{Profile}
 use Rattle.writer_laws.specs.RefusalNumbers.{answer-told}
 use Rattle.reading.specs.declared.Reading.{Reading}
 use Rattle.plan_record.specs.PlanRecord.{recordSize, planRecord}
-use Rattle.host.specs.Host.{WritesCode, AnswersCode, ReadsPlan, FindsElement}
+use Rattle.host.specs.Host.{WritesCode, MeasuresCode, ReadsPlan, FindsElement}
 
 -- the answer q, as the one number that it is
 pub code-written : {e : JxlColorEncoding} {before after : List ℕ} {p q : Profile} → Creates e before after p → p ≡ q → WritesCode (is e) before after (number q)
@@ -25,7 +25,7 @@ code-written {e} {before} w same =
     }
 
 -- the same without an output
-pub code-measured : {e : JxlColorEncoding} {n : ℕ} {p q : Profile} → Measures e n p → p ≡ q → AnswersCode (is e) n (number q)
+pub code-measured : {e : JxlColorEncoding} {n : ℕ} {p q : Profile} → MeasuresProfile e n p → p ≡ q → MeasuresCode (is e) n (number q)
 code-measured {e} {n} m same =
     let known = sym same ∙ m .answer in
     record { told = ap (λ (r : Profile). profileBy (number r)) known ∙ answer-told e (m .held) n; answer = ap number known }

@@ -14,7 +14,7 @@ ghost use Rattle.words.specs.Words.{be32};
 ghost use Rattle.reader_spec.specs.Read as Read;
 ghost use Rattle.reader_spec.specs.Finder as Finder;
 ghost use Rattle.reading.specs.Reading.{reading};
-ghost use Rattle.host.specs.Host.{WritesCode, AnswersCode, CountsEntries, profileNumber, ReadsPlan, FindsElement};
+ghost use Rattle.host.specs.Host.{WritesCode, MeasuresCode, CountsEntries, profileNumber, ReadsPlan, FindsElement};
 
 // ---- the profile of an encoding
 
@@ -97,7 +97,7 @@ pub extern "C" fn merqyduk_write_xyb(intent: u32, out: &mut [u8]) -> u32
 // ---- the length of a profile, before there is memory for it
 
 fn length(code: EncodingCode, capacity: usize) -> u32
-    ensures { λ r. ⌜ AnswersCode (knownEncoding code) capacity r ⌝ }
+    ensures { λ r. ⌜ MeasuresCode (knownEncoding code) capacity r ⌝ }
 {
     let EncodingCode::Known(encoding) = code else {
         return color_encoding::UNKNOWN;
@@ -118,7 +118,7 @@ pub extern "C" fn merqyduk_length_gray(
     intent: u32,
     capacity: usize,
 ) -> u32
-    ensures { λ r. ⌜ AnswersCode (grayFrom (whitePointFrom white wx wy) (transferFunctionFrom curve gamma) (intentFrom intent)) capacity r ⌝ }
+    ensures { λ r. ⌜ MeasuresCode (grayFrom (whitePointFrom white wx wy) (transferFunctionFrom curve gamma) (intentFrom intent)) capacity r ⌝ }
 {
     length(
         encoding_codes::gray_from_numbers(white, wx, wy, curve, gamma, intent),
@@ -143,7 +143,7 @@ pub extern "C" fn merqyduk_length_rgb(
     intent: u32,
     capacity: usize,
 ) -> u32
-    ensures { λ r. ⌜ AnswersCode (rgbFrom (whitePointFrom white wx wy) (primariesFrom primaries rx ry gx gy bx by) (transferFunctionFrom curve gamma) (intentFrom intent)) capacity r ⌝ }
+    ensures { λ r. ⌜ MeasuresCode (rgbFrom (whitePointFrom white wx wy) (primariesFrom primaries rx ry gx gy bx by) (transferFunctionFrom curve gamma) (intentFrom intent)) capacity r ⌝ }
 {
     length(
         encoding_codes::rgb_from_numbers(
@@ -167,7 +167,7 @@ pub extern "C" fn merqyduk_length_rgb(
 
 #[no_mangle]
 pub extern "C" fn merqyduk_length_xyb(intent: u32, capacity: usize) -> u32
-    ensures { λ r. ⌜ AnswersCode (xybFrom (intentFrom intent)) capacity r ⌝ }
+    ensures { λ r. ⌜ MeasuresCode (xybFrom (intentFrom intent)) capacity r ⌝ }
 {
     length(encoding_codes::xyb_from_number(intent), capacity)
 }

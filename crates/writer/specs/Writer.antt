@@ -54,6 +54,6 @@ pub record Creates (e : JxlColorEncoding) (before after : List ℕ) (r : Profile
   pub held : HeldEncoding e
 
 -- the promise of `profile_length` for the encoding e: what the writer answers on an output of n bytes
-pub record Measures (e : JxlColorEncoding) (n : ℕ) (r : Profile) : Type 0 where
+pub record MeasuresProfile (e : JxlColorEncoding) (n : ℕ) (r : Profile) : Type 0 where
   pub answer : r ≡ answer (planOf e) n
   pub held : HeldEncoding e

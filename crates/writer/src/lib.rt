@@ -12,7 +12,7 @@ ghost use Rattle.text.specs.Description.{description};
 ghost use Rattle.text.specs.Held.{WhiteInRange};
 ghost use Rattle.encoding_plan.specs.Answers.{checkedPlan};
 ghost use Rattle.encoding_plan.specs.PlanOf.{planOf};
-ghost use Rattle.writer.specs.Writer.{answer, Measures, Creates};
+ghost use Rattle.writer.specs.Writer.{answer, MeasuresProfile, Creates};
 
 // The refusal of an output that is shorter than what is to be written.
 pub const TOO_SHORT: u32 = 9;
@@ -55,7 +55,7 @@ fn put_profile(encoding: JxlColorEncoding, plan: Numbers, size: usize, out: &mut
 
 // What `maybe_create_profile` answers where the output has `capacity` bytes: the profile's length, before there is memory for it.
 pub fn profile_length(encoding: JxlColorEncoding, capacity: usize) -> Profile
-    ensures { λ r. ⌜ Measures encoding capacity r ⌝ }
+    ensures { λ r. ⌜ MeasuresProfile encoding capacity r ⌝ }
 {
     answer(encoding, encoding_plan::plan_of(encoding), capacity)
 }
