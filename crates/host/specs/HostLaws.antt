@@ -15,20 +15,17 @@ use Rattle.reading.specs.declared.Reading.{Reading}
 use Rattle.plan_record.specs.PlanRecord.{recordSize, planRecord}
 use Rattle.host.specs.Host.{WritesCode, MeasuresCode, ReadsPlan, FindsElement}
 
--- the answer q, as the one number that it is
-pub code-written : {e : JxlColorEncoding} {before after : List ℕ} {p q : Profile} → Creates e before after p → p ≡ q → WritesCode (is e) before after (number q)
-code-written {e} {before} w same =
-    let known = sym same ∙ w .writes .answer in
-    record {
-      writes = record { answer = ap number known; output = w .writes .output };
-      told = ap (λ (r : Profile). profileBy (number r)) known ∙ answer-told e (w .held) (length before);
-    }
-
--- the same without an output
+-- the answer q, as the one number that it is, without an output
 pub code-measured : {e : JxlColorEncoding} {n : ℕ} {p q : Profile} → MeasuresProfile e n p → p ≡ q → MeasuresCode (is e) n (number q)
 code-measured {e} {n} m same =
     let known = sym same ∙ m .answer in
     record { told = ap (λ (r : Profile). profileBy (number r)) known ∙ answer-told e (m .held) n; answer = ap number known }
+
+-- and with one
+pub code-written : {e : JxlColorEncoding} {before after : List ℕ} {p q : Profile} → Creates e before after p → p ≡ q → WritesCode (is e) before after (number q)
+code-written {e} {before} w same =
+    let m = code-measured {e = e} {n = length before} (record { answer = w .writes .answer; held = w .held }) same in
+    record { writes = record { answer = m .answer; output = w .writes .output }; told = m .told }
 
 -- ---- a file read into a lent record
 

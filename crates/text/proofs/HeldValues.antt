@@ -27,7 +27,7 @@ use Rattle.color_encoding.proofs.JxlColorEncoding.Laws as EncodingLaws
 use Rattle.text.specs.Held.{Held, HeldWhite, HeldPrimaries, HeldTransfer, HeldEncoding}
 
 -- an `f32`
-held : (x : Float) (vs : List Val) → Is (f32-field .row) x vs → Held x
+pub held : (x : Float) (vs : List Val) → Is (f32-field .row) x vs → Held x
 held x vs p = subst T (sym (p .1)) tt
 
 pub held-white : (w : JxlWhitePoint) (vs : List Val) → Is (row White.the-type) w vs → HeldWhite w

@@ -55,8 +55,11 @@ length-white-in-range (W.Chromaticity wx wy) h =
     let in-range = within (whiteXy (W.Chromaticity wx wy)) h in
     length-pair 59 wx wy 10 9 (length-unit wx (in-range .x-from) (in-range .x-to)) (le-of-eq (length-positive-unit wy (in-range .y-above) (in-range .y-to)))
 
+pub length-pairs : (a b c : List ℕ) → length (a ++ semicolon ++ b ++ semicolon ++ c) ≡ length a + 1 + length b + 1 + length c
+length-pairs a b c = simp length-append (omega arith)
+
 three-pairs : (a b c : List ℕ) → length a ≤ 97 → length b ≤ 97 → length c ≤ 97 → length (a ++ semicolon ++ b ++ semicolon ++ c) ≤ 293
-three-pairs a b c h g f = simp length-append (omega arith)
+three-pairs a b c h g f = omega (arith, length-pairs a b c)
 
 length-primaries : (p : JxlPrimaries) → HeldPrimaries p → length (primariesName p) ≤ 293
 unfolding primariesName

@@ -200,7 +200,7 @@ fn lengths(answer: impl Fn(usize) -> usize, room: usize) -> [usize; 5] {
 
 fn writer(run: &mut Run) {
     run.leaf(
-        "writer, and the length before",
+        "writer and dry call",
         calls,
         |(encoding, room)| {
             let profile = answer::profile(encoding);
@@ -241,7 +241,7 @@ fn bench() {
             }));
         }
         println!(
-            "{name}: {port:.0} ns, the original {original:.0} ns, ratio {:.2}; the length before {length:.0} ns, ratio {:.2}",
+            "{name}: {port:.0} ns, the original {original:.0} ns, ratio {:.2}; the dry call {length:.0} ns, ratio {:.2}",
             port / original,
             length / port
         );

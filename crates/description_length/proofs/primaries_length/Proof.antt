@@ -1,18 +1,13 @@
 -- Three pairs of coordinates with two separators, or the letters of a name. Assumes nothing.
-use Prim.Native.Nat.{ℕ, _+_}
-use mathlib.Core.Path.{_≡_, sym, _∙_}
-use mathlib.Core.List.{List, _++_}
+use mathlib.Core.Path.{sym, _∙_}
 use native.Mathlib.Omega.{arith}
 use lib.Dec.{lit≤}
-use lib.ListN.{length, length-append}
 use Rattle.encoding_names.proofs.Named.{primaries-named}
-use Rattle.text.specs.Description.{comma, semicolon, pair, primariesName}
+use Rattle.text.specs.BoundsLaws.{length-pairs}
+use Rattle.text.specs.Description.{comma, pair, primariesName}
 use borrow.Author.Needs.{needs}
 use Rattle.description_length.proofs.primaries_length.Statement.{statement}
 use Rattle.description_length.proofs.primaries_length.Tie as tie
-
-three : (a b c : List ℕ) → length (a ++ semicolon ++ b ++ semicolon ++ c) ≡ length a + 1 + length b + 1 + length c
-three a b c = simp length-append (omega arith)
 
 returns : tie.Need-returns
 unfolding primariesName
@@ -20,7 +15,11 @@ returns c =
     let b = c .pair-length3 .ensures in
     let g = c .before .pair-length2 .ensures in
     let r = c .before .before .pair-length .ensures in
-    rw (c .before .before .before .before .primaries .given .1) (record { is = omega (arith, r .is, g .is, b .is) ∙ sym (three (pair comma _ _) (pair comma _ _) (pair comma _ _)); most = omega (arith, r .most, g .most, b .most) })
+    rw (c .before .before .before .before .primaries .given .1)
+    (record {
+      is = omega (arith, r .is, g .is, b .is) ∙ sym (length-pairs (pair comma _ _) (pair comma _ _) (pair comma _ _));
+      most = omega (arith, r .most, g .most, b .most);
+    })
 
 returns-2 : tie.Need-returns-2
 returns-2 c = record { is = sym (primaries-named _ (c .match .keys2) .three); most = lit≤ tt }

@@ -20,17 +20,8 @@ abbrev μ-loop : tie.MeasureT-loop
 counted : (s : tie.Start Inv-loop μ-loop) → length (used (s .args .listed)) ≡ s .args .listed .count
 counted s = count-used (s .args .listed) (s .pre) (search (needs, length-mapped))
 
-begin-requires : tie.Need-begin-requires Inv-loop μ-loop
-begin-requires c κs = search needs
-
 loop-holds : tie.Need-loop-holds Inv-loop μ-loop
 loop-holds c = unwalked _ _
-
-mul-placed : tie.Need-mul-placed Inv-loop μ-loop
-mul-placed c = search needs
-
-array-copy-out-placed : tie.Need-array-copy-out-placed Inv-loop μ-loop
-array-copy-out-placed c = search needs
 
 placed-requires : tie.Need-placed-requires Inv-loop μ-loop
 placed-requires c κs =
@@ -40,21 +31,12 @@ placed-requires c κs =
     let start = first .before .before in
     omega (arith, start .pre .1, step-within (start .args .listed) (counted start) (at .loop .inv) (test .loop-test .taken) (first .begin .ensures))
 
-add-i : tie.Need-add-i Inv-loop μ-loop
-add-i c = search needs
-
-loop-less : tie.Need-loop-less Inv-loop μ-loop
-loop-less c = search needs
-
 loop-again : tie.Need-loop-again Inv-loop μ-loop
 loop-again c =
     let test = c .before .before in
     let at = test .before in
     let start = at .before .before .before in
     rw (c .placed .ensures) (step (start .args .listed) (counted start) (at .loop .inv) (test .loop-test .taken))
-
-cast-result : tie.Need-cast-result Inv-loop μ-loop
-cast-result c = search needs
 
 returns : tie.Need-returns Inv-loop μ-loop
 returns c =
@@ -70,13 +52,13 @@ end-of-spec =
     (tie.spec
     Inv-loop
     μ-loop
-    begin-requires
+    (λ c κs. search needs)
     loop-holds
-    mul-placed
-    array-copy-out-placed
+    (λ c. search needs)
+    (λ c. search needs)
     placed-requires
-    add-i
-    loop-less
+    (λ c. search needs)
+    (λ c. search needs)
     loop-again
-    cast-result
+    (λ c. search needs)
     returns)

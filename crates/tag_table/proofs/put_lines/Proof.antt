@@ -26,26 +26,11 @@ abbrev μ-loop : tie.MeasureT-loop
 counted : (s : tie.Start Inv-loop μ-loop) → length (used (s .args .listed)) ≡ s .args .listed .count
 counted s = count-used (s .args .listed) (s .pre .0) (search (needs, length-mapped))
 
-begin-requires : tie.Need-begin-requires Inv-loop μ-loop
-begin-requires c κs = search needs
-
-cast-put-u32-be : tie.Need-cast-put-u32-be Inv-loop μ-loop
-cast-put-u32-be c = search needs
-
-put-u32-be-requires : tie.Need-put-u32-be-requires Inv-loop μ-loop
-put-u32-be-requires c κs = search needs
-
 loop-holds : tie.Need-loop-holds Inv-loop μ-loop
 loop-holds c =
     let first = c .before .before .before .before in
     let start = first .before .before .before in
     (unwalked _ _, begun lines _ _ (walk (first .begin .result) (used (start .args .listed))), refl)
-
-mul-tag : tie.Need-mul-tag Inv-loop μ-loop
-mul-tag c = search needs
-
-array-copy-out-tag : tie.Need-array-copy-out-tag Inv-loop μ-loop
-array-copy-out-tag c = search needs
 
 placed-requires : tie.Need-placed-requires Inv-loop μ-loop
 placed-requires c κs =
@@ -54,15 +39,6 @@ placed-requires c κs =
     let first = at .before .before .before .before .before in
     let start = first .before .before .before in
     omega (arith, start .pre .0 .1, step-within (start .args .listed) (counted start) (at .loop .inv .0) (test .loop-test .taken) (first .begin .ensures))
-
-put-tag-requires : tie.Need-put-tag-requires Inv-loop μ-loop
-put-tag-requires c κs = search needs
-
-add-i : tie.Need-add-i Inv-loop μ-loop
-add-i c = search needs
-
-loop-less : tie.Need-loop-less Inv-loop μ-loop
-loop-less c = search needs
 
 loop-again : tie.Need-loop-again Inv-loop μ-loop
 loop-again c =
@@ -79,9 +55,6 @@ loop-again c =
       one-more lines (entry 0 0 []) es (omega (arith, count .put-u32-be .ensures .place, start .pre .1)) here (at .loop .inv .1) (rw (call .placed .ensures, step-entry (start .args .listed) (counted start) (at .loop .inv .0) (test .loop-test .taken)) at (put .put-tag .ensures)),
       search needs,
     )
-
-same-length : tie.Need-same-length Inv-loop μ-loop
-same-length c = search needs
 
 returns : tie.Need-returns Inv-loop μ-loop
 returns c =
@@ -100,16 +73,16 @@ put-lines-spec =
     (tie.spec
     Inv-loop
     μ-loop
-    begin-requires
-    cast-put-u32-be
-    put-u32-be-requires
+    (λ c κs. search needs)
+    (λ c. search needs)
+    (λ c κs. search needs)
     loop-holds
-    mul-tag
-    array-copy-out-tag
+    (λ c. search needs)
+    (λ c. search needs)
     placed-requires
-    put-tag-requires
-    add-i
-    loop-less
+    (λ c κs. search needs)
+    (λ c. search needs)
+    (λ c. search needs)
     loop-again
-    same-length
+    (λ c. search needs)
     returns)
