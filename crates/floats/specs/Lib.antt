@@ -7,3 +7,4 @@ pub mod RoundingLaws
 pub mod Fields
 pub mod FieldsLaws
 pub mod Narrow
+pub mod PatternLaws

@@ -1,0 +1,5 @@
+pub mod Grammar
+pub mod Scan
+pub mod ScanLaws
+pub mod Places
+pub mod PlacesLaws
