@@ -11,7 +11,7 @@ use lib.ListN.{length, take, drop, getD, length-drop}
 use lib.Seq.{drop-cons, drop-drop, drop-length}
 use Rattle.buffer.specs.Bytes.{same}
 use Rattle.buffer.specs.BoolLaws.{holds, both-right, never, and-true}
-use Rattle.scanner.specs.Scan.{Found, nothing, startsWith, after}
+use Rattle.scanner.specs.Scan.{Found, nothing, found, andThen, mapped, startsWith, after, joined}
 use Rattle.scanner.specs.Places.{behind, threes, nameNumber}
 
 -- ---- places
@@ -86,6 +86,17 @@ behind-here c at text e = sym (ap (λ (t : Bool). cond t (drop 1 (drop at text))
 
 pub behind-none : (c at : ℕ) (text : List ℕ) → startsWith (c ∷ []) (drop at text) ≡ false → drop (length text) text ≡ behind (c ∷ []) (drop at text)
 behind-none c at text e = drop-length text ∙ sym (ap (λ (t : Bool). cond t (drop 1 (drop at text)) []) e)
+
+-- ---- two parts with a separator between them
+
+module _ {A B : Type 0} (f : List ℕ → Found A) (n : List ℕ) (g : List ℕ → Found B) (l : List ℕ) where
+  pub joined-none : f l ≡ nothing → joined f n g l ≡ nothing
+  joined-none e = ap (λ (x : Found A). andThen x (λ a m. mapped (λ b. (a, b)) (after n g m))) e
+
+  -- the second is what g finds behind the separator
+  pub joined-step : g [] ≡ nothing → {m : List ℕ} {a : A} {y : Found B} → f l ≡ found a m → g (behind n m) ≡ y → joined f n g l ≡ mapped (λ b. (a, b)) y
+  joined-step none {m = m} {a = a} e h =
+      ap (λ (x : Found A). andThen x (λ a m. mapped (λ b. (a, b)) (after n g m))) e ∙ ap (mapped (λ b. (a, b))) (after-behind n g m none ∙ h)
 
 -- ---- names of three letters each
 

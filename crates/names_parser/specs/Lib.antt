@@ -1,0 +1,3 @@
+pub mod ParseNames
+pub mod NamePlaces
+pub mod NamesLaws
