@@ -8,7 +8,7 @@ use mathlib.Core.List.{List, [], _∷_}
 use borrow.Author.Tests.{ne-eqb}
 use lib.Dec.{eqb}
 use lib.ListN.{length, take, drop, getD, length-drop}
-use lib.Seq.{drop-cons, drop-drop, drop-length}
+use lib.Seq.{drop-cons, drop-drop}
 use Rattle.buffer.specs.Bytes.{same}
 use Rattle.buffer.specs.BoolLaws.{holds, both-right, never, and-true}
 use Rattle.scanner.specs.Scan.{Found, nothing, found, andThen, mapped, startsWith, after, joined}
@@ -81,11 +81,12 @@ after-behind n f l none = go (startsWith n l)
     go true = refl
     go false = sym none
 
-pub behind-here : (c at : ℕ) (text : List ℕ) → startsWith (c ∷ []) (drop at text) ≡ true → drop (at + 1) text ≡ behind (c ∷ []) (drop at text)
-behind-here c at text e = sym (ap (λ (t : Bool). cond t (drop 1 (drop at text)) []) e ∙ drop-next at text)
+module _ (n l : List ℕ) where
+  pub behind-here : startsWith n l ≡ true → drop (length n) l ≡ behind n l
+  behind-here e = sym (ap (λ (t : Bool). cond t (drop (length n) l) []) e)
 
-pub behind-none : (c at : ℕ) (text : List ℕ) → startsWith (c ∷ []) (drop at text) ≡ false → drop (length text) text ≡ behind (c ∷ []) (drop at text)
-behind-none c at text e = drop-length text ∙ sym (ap (λ (t : Bool). cond t (drop 1 (drop at text)) []) e)
+  pub behind-none : startsWith n l ≡ false → [] ≡ behind n l
+  behind-none e = sym (ap (λ (t : Bool). cond t (drop (length n) l) []) e)
 
 -- ---- two parts with a separator between them
 

@@ -40,6 +40,17 @@ pub fn letters_at(text: &[u8], at: usize, letters: &[u8]) -> bool
     buffer::same_bytes(letters, &text[at..at + letters.len()])
 }
 
+// The place after letters that the text starts with; where it starts with others, its end.
+pub fn past_front(text: &[u8], letters: &[u8]) -> usize
+    ensures { λ r. ⌜ drop r (now (text .entry)) ≡ behind (now (letters .entry)) (now (text .entry)) ⌝ }
+{
+    if letters_at(text, 0, letters) {
+        letters.len()
+    } else {
+        text.len()
+    }
+}
+
 // The number of the first of some names, of three letters each, that stands at a place; where none does, how many they are.
 pub fn name_at(text: &[u8], at: usize, names: &[u8]) -> usize
     ensures { λ r. ⌜ r ≡ nameNumber (threes (now (names .entry))) (drop at (now (text .entry))) ⌝ }

@@ -1,0 +1,4 @@
+pub mod Language
+pub mod Parse
+pub mod Parsed
+pub mod StepLaws
