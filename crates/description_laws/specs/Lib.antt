@@ -1,0 +1,10 @@
+pub mod PartsLaws
+pub mod EncodingLaws
+pub mod ReadsLaws
+pub mod ZeroLaws
+pub mod Distance
+pub mod ClosestLaws
+pub mod RoundLaws
+pub mod NearestLaws
+pub mod Reads
+pub mod TypedTexts

@@ -1,0 +1,3 @@
+pub mod EncodingRecord
+pub mod EncodingRecordLaws
+pub mod EncodingRecordTold
