@@ -18,6 +18,10 @@ struct arguments {
     uint8_t file[MERQYDUK_MAX_PROFILE];
     size_t file_len;
     struct merqyduk_plan plan;
+    /* A text that is typed, and its record. */
+    const uint8_t *text;
+    size_t text_len;
+    uint8_t record[MERQYDUK_ENCODING_SIZE];
 };
 
 typedef void call(struct arguments *a);
@@ -62,6 +66,10 @@ static void read_plan(struct arguments *a) { merqyduk_read(a->file, a->file_len,
 static void find(struct arguments *a) {
     uint32_t offset;
     merqyduk_find(a->file, a->file_len, 0x64657363, &offset); /* desc */
+}
+
+static void parse(struct arguments *a) {
+    merqyduk_parse_description(a->text, a->text_len, a->record, sizeof a->record);
 }
 
 /* The bytes below this function's own stack that the call has changed. */
@@ -129,12 +137,17 @@ int main(void) {
                  {"merqyduk_job", job},
                  {"merqyduk_job_profile", job_profile},
                  {"merqyduk_read", read_plan},
-                 {"merqyduk_find", find}};
+                 {"merqyduk_find", find},
+                 {"merqyduk_parse_description", parse}};
     enum { CALLS = sizeof calls / sizeof calls[0], ENCODINGS = 10000 };
     size_t most[CALLS] = {0};
     static struct arguments a;
     uint8_t bytes[59];
-    int accepted = 0;
+    /* Descriptions of each kind, the longest among them. */
+    static const char *const typed[] = {"sRGB", "XYB_Abs", "Gra_0.3457000;0.3585000_Rel_g0.4545455",
+                                        "RGB_-99.9999999;-99.9999999_-99.9999999,-99.9999999;-99.9999999,-99.9999999;"
+                                        "-99.9999999,-99.9999999_Sat_g-99.9999999"};
+    int accepted = 0, read = 0;
     a.job = bytes;
     a.job_len = sizeof bytes;
     for (int n = 0; n < ENCODINGS; n++) {
@@ -151,15 +164,25 @@ int main(void) {
             a.file_len = length;
             if (merqyduk_read(a.file, length, &a.plan, sizeof a.plan) == 0) accepted++;
         }
+        /* One of these, or what the last profile says. */
+        const char *text = typed[random_bits() % 4];
+        if (random_bits() % 2) {
+            a.text = a.plan.text;
+            a.text_len = a.plan.letters;
+        } else {
+            a.text = (const uint8_t *)text;
+            a.text_len = strlen(text);
+        }
+        if (merqyduk_parse_description(a.text, a.text_len, a.record, sizeof a.record) == 0) read++;
         for (int i = 0; i < CALLS; i++) {
             size_t d = depth(calls[i].make, &a);
             if (d > most[i]) most[i] = d;
         }
     }
     int failed = 0;
-    printf("stack: %d of the encodings led to a profile that was read\n", accepted);
+    printf("stack: %d of the encodings led to a profile that was read, and %d texts were read\n", accepted, read);
     for (int i = 0; i < CALLS; i++) {
-        printf("stack: %-21s %5zu bytes at most over %d encodings\n", calls[i].name, most[i], ENCODINGS);
+        printf("stack: %-26s %5zu bytes at most over %d encodings\n", calls[i].name, most[i], ENCODINGS);
         if (most[i] > MERQYDUK_STACK) failed = 1;
     }
     if (failed) printf("FAILED: a call takes more than MERQYDUK_STACK, %d bytes\n", MERQYDUK_STACK);

@@ -1,6 +1,7 @@
 // Calls the entries of include/merqyduk.h as a board would: the examples of 01, outputs of every length up to the profile's, and the length told
-// without an output for each of them, outputs, jobs and files that end at a page that may not be touched, numbers without meaning, and jobs that are cut or have bytes left. Reads each profile back,
-// finds its elements, and has files refused by each number. Writes the accepted profiles into the folder that it is given.
+// without an output for each of them; outputs, jobs, files and texts that end at a page that may not be touched; numbers without meaning, and jobs
+// that are cut or have bytes left. Reads each profile back, finds its elements, and has files refused by each number. Types every named encoding,
+// numbers of one's own, and texts that are no description. Writes the accepted profiles into the folder that it is given.
 #include "merqyduk.h"
 
 #include <sys/mman.h>
@@ -14,7 +15,9 @@
 #include <cstring>
 #include <functional>
 #include <limits>
+#include <map>
 #include <memory>
+#include <regex>
 #include <string>
 #include <vector>
 
@@ -424,6 +427,481 @@ void bad_jobs() {
     expect(merqyduk_job_profile(nullptr, 0, 0, nullptr, 0) == 41, "no job and no output");
 }
 
+// ---- typed texts
+
+using Encoding = merqyduk_encoding;
+
+static_assert(sizeof(Encoding) == 56, "the struct has no gaps, so that its bytes can be compared");
+
+float float_of(uint32_t bits) {
+    float value;
+    std::memcpy(&value, &bits, sizeof value);
+    return value;
+}
+
+// The numbers of an own white, of own primaries and of a gamma, in the order of a record.
+std::vector<float Encoding::*> float_members() {
+    using E = Encoding;
+    return {&E::wx, &E::wy, &E::rx, &E::ry, &E::gx, &E::gy, &E::bx, &E::by, &E::gamma};
+}
+
+// The bytes of a record as `encodingRecord` of crates/encoding_record has them.
+Bytes record_of(const Encoding &e) {
+    Bytes record;
+    auto number = [&](uint32_t n) { record.push_back(uint8_t(n)); };
+    auto floats = [&](std::initializer_list<float> list) {
+        for (float value : list) {
+            uint32_t bits;
+            std::memcpy(&bits, &value, sizeof bits);
+            for (int shift : {24, 16, 8, 0}) number(bits >> shift & 255);
+        }
+    };
+    number(e.space);
+    number(e.white);
+    floats({e.wx, e.wy});
+    number(e.primaries);
+    floats({e.rx, e.ry, e.gx, e.gy, e.bx, e.by});
+    number(e.curve);
+    floats({e.gamma});
+    number(e.intent);
+    return record;
+}
+
+// The calls that write the encoding and tell its length, with the numbers of the struct.
+Call call_of(const Encoding &e) {
+    if (e.space == MERQYDUK_SPACE_GRAY) return gray(e.white, e.wx, e.wy, e.curve, e.gamma, e.intent);
+    if (e.space == MERQYDUK_SPACE_XYB) return xyb(e.intent);
+    return rgb(e.white, e.wx, e.wy, e.primaries, {e.rx, e.ry, e.gx, e.gy, e.bx, e.by}, e.curve, e.gamma, e.intent);
+}
+
+// A text as a message shows it.
+std::string shown(const std::string &text) {
+    std::string letters;
+    for (unsigned char c : text.substr(0, 120)) {
+        char code[8];
+        std::snprintf(code, sizeof code, "\\x%02x", unsigned(c));
+        letters += c >= ' ' && c < 127 ? std::string(1, char(c)) : code;
+    }
+    return "the text \"" + letters + "\"";
+}
+
+uint32_t parse(const std::string &text, uint8_t *record, size_t n) {
+    return merqyduk_parse_description(reinterpret_cast<const uint8_t *>(text.data()), text.size(), record, n);
+}
+
+// Answers `answer` to a record with room. Lends records of many lengths, among other bytes and at pages that may not be touched: with answer 0 the
+// record stands at their front, or 9 is answered where they are too short; every other byte, and the text, stays as it was.
+void answers(const std::string &text, uint32_t answer, const Bytes &record) {
+    const std::string name = shown(text);
+    const Bytes bytes(text.begin(), text.end());
+    const size_t before = 64;
+    for (size_t n : {size_t(0), size_t(1), size_t(40), size_t(41), size_t(42), size_t(60)}) {
+        const uint32_t expected = answer == 0 && n < 41 ? 9 : answer;
+        Bytes around(before + n + 64);
+        for (size_t i = 0; i < around.size(); i++) around[i] = Guarded::fill(i);
+        Bytes after = around;
+        if (expected == 0) std::copy(record.begin(), record.end(), after.begin() + before);
+        Bytes typed = bytes;
+        expect(merqyduk_parse_description(typed.data(), typed.size(), &around[before], n) == expected,
+               name + " answered " + std::to_string(expected) + " in " + std::to_string(n));
+        expect(around == after, name + " with the bytes around " + std::to_string(n));
+        expect(typed == bytes, name + " stays as it was");
+        for (bool at_end : {false, true}) {
+            auto kept = guarded(bytes, at_end);
+            Guarded lent(n, at_end);
+            expect(merqyduk_parse_description(kept->data(), bytes.size(), lent.data(), n) == expected,
+                   name + " between pages answered " + std::to_string(expected));
+            expect(std::equal(bytes.begin(), bytes.end(), kept->data()), name + " between pages stays as it was");
+            expect(expected != 0 || std::equal(record.begin(), record.end(), lent.data()), name + " has its record");
+            expect(lent.unchanged_from(expected == 0 ? 41 : 0), name + " leaves the rest of the record unchanged");
+        }
+    }
+    expect(parse(text, nullptr, 0) == (answer == 0 ? 9 : answer), name + " with no record");
+}
+
+void refuses_text(const std::string &text, uint32_t number) {
+    answers(text, number, {});
+    Encoding e, before;
+    std::memset(&e, 0xa5, sizeof e);
+    before = e;
+    expect(merqyduk_parse(text.data(), text.size(), &e) == number, shown(text) + " refused " + std::to_string(number));
+    expect(std::memcmp(&e, &before, sizeof e) == 0, shown(text) + " leaves the struct unchanged");
+}
+
+// The encoding from a text writes what the calls write that are given the same numbers, and tells the same lengths.
+void parses(const std::string &text, const Encoding &expected) {
+    const std::string name = shown(text);
+    answers(text, 0, record_of(expected));
+    Encoding e;
+    std::memset(&e, 0xa5, sizeof e);
+    expect(merqyduk_parse(text.data(), text.size(), &e) == 0, name + " is read");
+    expect(std::memcmp(&e, &expected, sizeof e) == 0, name + " has the encoding that was meant");
+    const Call call = call_of(expected);
+    Bytes direct(1300, 7), from_struct = direct;
+    const uint32_t length = call(direct.data(), 1200);
+    for (size_t n : {size_t(0), size_t(length) - 1, size_t(length), size_t(1200)}) {
+        std::fill(direct.begin(), direct.end(), 7);
+        from_struct = direct;
+        const uint32_t answer = call(direct.data(), n);
+        expect(merqyduk_write(&e, from_struct.data(), n) == answer, name + " is written");
+        expect(from_struct == direct, name + " has the profile of its numbers");
+        expect(merqyduk_length(&e, n) == call.length(n), name + " tells its length");
+    }
+    expect(merqyduk_length(&e, SIZE_MAX) == length, name + " tells its length without a bound");
+}
+
+const char *const white_names[] = {"D65", "EER", "DCI"};
+const char *const primaries_names[] = {"SRG", "202", "DCI"};
+const char *const curve_names[] = {"709", "Lin", "SRG", "PeQ", "DCI", "HLG"};
+const char *const intent_names[] = {"Per", "Rel", "Sat", "Abs"};
+
+Encoding named(uint32_t space, uint32_t white, uint32_t primaries, uint32_t curve, uint32_t intent) {
+    Encoding e{};
+    e.space = space;
+    e.white = white;
+    e.primaries = primaries;
+    e.curve = curve;
+    e.intent = intent;
+    return e;
+}
+
+// Every description without a number, and its encoding.
+std::map<std::string, Encoding> named_texts() {
+    const std::map<std::string, std::string> common = {{"RGB_D65_SRG_Per_SRG", "sRGB"},
+                                                       {"RGB_D65_DCI_Per_SRG", "DisplayP3"},
+                                                       {"RGB_D65_202_Rel_PeQ", "Rec2100PQ"},
+                                                       {"RGB_D65_202_Rel_HLG", "Rec2100HLG"}};
+    std::map<std::string, Encoding> all;
+    for (uint32_t i = 0; i < 4; i++) {
+        const std::string intent = intent_names[i];
+        all["XYB_" + intent] = named(MERQYDUK_SPACE_XYB, 0, 0, 0, i);
+        for (uint32_t w = 0; w < 3; w++)
+            for (uint32_t c = 0; c < 6; c++) {
+                const std::string end = "_" + intent + "_" + curve_names[c];
+                all[std::string("Gra_") + white_names[w] + end] = named(MERQYDUK_SPACE_GRAY, w, 0, c, i);
+                for (uint32_t p = 0; p < 3; p++) {
+                    const std::string text = std::string("RGB_") + white_names[w] + "_" + primaries_names[p] + end;
+                    all[common.count(text) ? common.at(text) : text] = named(MERQYDUK_SPACE_RGB, w, p, c, i);
+                }
+            }
+    }
+    for (const auto &name : common) refuses_text(name.first, 51);
+    return all;
+}
+
+// Each is read; so is what the profile says that it leads to. No text is read that differs from one by a byte put in, taken out or changed, or by its
+// end cut off, unless it is another of them.
+void named_encodings() {
+    const std::map<std::string, Encoding> all = named_texts();
+    expect(all.size() == 3 * 3 * 6 * 4 + 3 * 6 * 4 + 4, "the named encodings");
+    const auto right = [&](const std::string &typed) {
+        const auto found = all.find(typed);
+        uint8_t record[41];
+        if (found == all.end()) return parse(typed, record, sizeof record) == 51;
+        return parse(typed, record, sizeof record) == 0 && Bytes(record, record + 41) == record_of(found->second);
+    };
+    for (const auto &known : all) {
+        const std::string &typed = known.first;
+        parses(typed, known.second);
+        Bytes profile(1200);
+        profile.resize(merqyduk_write(&known.second, profile.data(), profile.size()));
+        if (profile.size() >= MERQYDUK_MIN_PROFILE && known.second.space != MERQYDUK_SPACE_XYB)
+            expect(text(profile) == typed, shown(typed) + " is the text of its profile");
+        bool all_right = true;
+        for (size_t i = 0; i <= typed.size(); i++) {
+            const std::string front = typed.substr(0, i), rest = typed.substr(i);
+            all_right = all_right && right(front);
+            if (!rest.empty()) all_right = all_right && right(front + rest.substr(1));
+            for (int c = 0; c < 256; c++) {
+                all_right = all_right && right(front + char(c) + rest);
+                if (!rest.empty()) all_right = all_right && right(front + char(c) + rest.substr(1));
+            }
+        }
+        expect(all_right, shown(typed) + " with a byte more, less or changed");
+    }
+    bool all_refused = true;
+    for (int n = 0; n < 65536; n++) {
+        uint8_t record[41];
+        const uint8_t two[] = {uint8_t(n >> 8), uint8_t(n)};
+        all_refused = all_refused && merqyduk_parse_description(two, 2, record, sizeof record) == 51 &&
+                      merqyduk_parse_description(two, 1, record, sizeof record) == 51;
+    }
+    expect(all_refused, "no text of one or two bytes");
+}
+
+// ---- typed numbers
+
+// Numbers of one's own by their texts, in the order of `float_members`: an RGB text, and a gray text of the first two and the last.
+using Numbers = std::vector<std::string>;
+
+std::string rgb_text(const Numbers &n) {
+    return "RGB_" + n[0] + ";" + n[1] + "_" + n[2] + "," + n[3] + ";" + n[4] + "," + n[5] + ";" + n[6] + "," + n[7] +
+           "_Rel_g" + n[8];
+}
+
+std::string gray_text(const Numbers &n) { return "Gra_" + n[0] + ";" + n[1] + "_Sat_g" + n[8]; }
+
+Encoding rgb_encoding(const std::vector<uint32_t> &bits) {
+    Encoding e = named(MERQYDUK_SPACE_RGB, MERQYDUK_WHITE_OWN, MERQYDUK_PRIMARIES_OWN, MERQYDUK_CURVE_GAMMA, 1);
+    for (size_t i = 0; i < 9; i++) e.*float_members()[i] = float_of(bits[i]);
+    return e;
+}
+
+Encoding gray_encoding(const std::vector<uint32_t> &bits) {
+    Encoding e = named(MERQYDUK_SPACE_GRAY, MERQYDUK_WHITE_OWN, 0, MERQYDUK_CURVE_GAMMA, 2);
+    e.wx = float_of(bits[0]);
+    e.wy = float_of(bits[1]);
+    e.gamma = float_of(bits[8]);
+    return e;
+}
+
+// Numbers that differ, so that two exchanged would be seen.
+const Numbers usual = {"0.3100000", "0.3200000", "0.6400000", "0.3300000", "0.3000000",
+                       "0.6000000", "2.1500000", "1.2600000", "0.4500000"};
+const std::vector<uint32_t> usual_bits = {0x3e9eb852, 0x3ea3d70a, 0x3f23d70a, 0x3ea8f5c3, 0x3e99999a,
+                                          0x3f19999a, 0x4009999a, 0x3fa147ae, 0x3ee66666};
+
+void good_numbers() {
+    struct Number {
+        const char *text;
+        uint32_t bits;
+    };
+    // Among them pairs at each side of the half between two floats, at most 7 millionths of their distance from it.
+    const Number numbers[] = {
+        {"0.0000000", 0x00000000},  {"-0.0000000", 0x80000000}, {"0.0000001", 0x33d6bf95},  {"-0.0000001", 0xb3d6bf95},
+        {"0.3127000", 0x3ea01a37},  {"0.3290000", 0x3ea872b0},  {"0.3333333", 0x3eaaaaaa},  {"0.9999999", 0x3f7ffffe},
+        {"1.0000000", 0x3f800000},  {"-1.0000000", 0xbf800000}, {"9.9999999", 0x41200000},  {"10.0000000", 0x41200000},
+        {"16.0000009", 0x41800000}, {"16.0000010", 0x41800001}, {"12.3456789", 0x414587e7}, {"-12.3456789", 0xc14587e7},
+        {"99.9999961", 0x42c7ffff}, {"99.9999962", 0x42c80000}, {"99.9999999", 0x42c80000}, {"-99.9999999", 0xc2c80000},
+        {"64.0013237", 0x428000ae}, {"64.0064888", 0x42800352}, {"8.0070014", 0x41001cae},  {"8.0008111", 0x41000352},
+        {"1.0028283", 0x3f805cae},  {"1.0049842", 0x3f80a352},  {"0.2526602", 0x3e815cae},  {"0.2551523", 0x3e82a352},
+        {"0.0374419", 0x3d195cae},  {"0.0328706", 0x3d06a352},
+    };
+    for (const Number &number : numbers)
+        for (size_t i = 0; i < 9; i++) {
+            Numbers texts = usual;
+            texts[i] = number.text;
+            std::vector<uint32_t> bits = usual_bits;
+            bits[i] = number.bits;
+            const bool zero_gamma = i == 8 && number.bits % 0x80000000u == 0;
+            if (zero_gamma) refuses_text(rgb_text(texts), 52);
+            else parses(rgb_text(texts), rgb_encoding(bits));
+            if (i >= 2 && i < 8) continue;
+            if (zero_gamma) refuses_text(gray_text(texts), 52);
+            else parses(gray_text(texts), gray_encoding(bits));
+        }
+    parses(rgb_text(Numbers(9, "-99.9999999")), rgb_encoding(std::vector<uint32_t>(9, 0xc2c80000)));
+}
+
+void bad_numbers() {
+    const std::string numbers[] = {"", "-", ".", "0", "1", "1.", "-1.", ".5", ".5000000", "-.5000000", "0.", "0.000000", "0.00000000",
+                                   "0.500000", "0.50000000", "1.000000", "-1.00000000", "100.0000000", "999.9999999",
+                                   "00.0000000", "00.5000000", "01.0000000", "-00.0000000", "-01.0000000", "000.0000000",
+                                   "+0.5000000", "+10.0000000", "--0.5000000", "-+0.5000000", "0.-5000000", "0.5000000-",
+                                   "0,5000000", "0..500000", "0.5.00000", "0.500000e", "5e-0000000", "5.000000e1", "0x0.500000",
+                                   "inf", "-inf", "Inf", "infinity", "NaN", "nan", "-NaN", "D65", "0.50000 0", " 0.5000000",
+                                   "0.5000000 ", "0. 5000000", "0_5000000", "0.500000\xb2", "\xef\xbc\x90.5000000",
+                                   "0.5\x80\x80\x80\x80\x80\x80", std::string("0.500000\0", 9),
+                                   std::string("0.5000000\0", 10), std::string("\0" "0.5000000", 10), "0.5000000\n"};
+    for (const std::string &number : numbers)
+        for (size_t i = 0; i < 9; i++) {
+            Numbers texts = usual;
+            texts[i] = number;
+            // A gamma of zero is not seen in a text that is no description.
+            refuses_text(rgb_text(texts), 51);
+            if (i != 8) {
+                texts[8] = "0.0000000";
+                refuses_text(rgb_text(texts), 51);
+            }
+            if (i < 2 || i == 8) refuses_text(gray_text(texts), 51);
+        }
+}
+
+// The usual numbers with a byte put in, taken out or changed, one at a time. The C library has the nearest float.
+void changed_numbers() {
+    const std::regex form("-?(0|[1-9][0-9]?)\\.[0-9]{7}");
+    for (size_t place = 0; place < 9; place++) {
+        Numbers texts = usual;
+        std::vector<uint32_t> bits = usual_bits;
+        int accepted = 0;
+        bool all_right = true;
+        const auto right = [&](const std::string &number) {
+            texts[place] = number;
+            uint8_t record[41];
+            const uint32_t answer = parse(rgb_text(texts), record, sizeof record);
+            if (!std::regex_match(number, form)) return answer == 51;
+            const float value = std::strtof(number.c_str(), nullptr);
+            std::memcpy(&bits[place], &value, sizeof value);
+            accepted++;
+            return answer == 0 && Bytes(record, record + 41) == record_of(rgb_encoding(bits));
+        };
+        for (size_t i = 0; i <= usual[place].size(); i++) {
+            const std::string front = usual[place].substr(0, i), rest = usual[place].substr(i);
+            if (!rest.empty()) all_right = right(front + rest.substr(1)) && all_right;
+            for (int c = 0; c < 256; c++) {
+                all_right = right(front + char(c) + rest) && all_right;
+                if (!rest.empty()) all_right = right(front + char(c) + rest.substr(1)) && all_right;
+            }
+        }
+        expect(all_right, "number " + std::to_string(place) + " with a byte more, less or changed");
+        // Eight digits are changed to ten each and the point to itself; a minus or one of nine digits is put before the whole digit, and ten behind it
+        // unless it is 0.
+        expect(accepted == 80 + 1 + 1 + 9 + (usual[place][0] == '0' ? 0 : 10), "how many of them are numbers");
+    }
+}
+
+// Numbers by chance, all nine of a text at once, against the C library.
+void many_numbers() {
+    uint64_t state = 1;
+    bool all_right = true;
+    for (int n = 0; n < 20000; n++) {
+        Numbers texts(9);
+        std::vector<uint32_t> bits(9);
+        for (size_t i = 0; i < 9; i++) {
+            state = state * 6364136223846793005u + 1442695040888963407u;
+            const uint32_t whole = uint32_t(state >> 33) % (n % 2 == 0 ? 10000000 : 1000000000), minus = uint32_t(state >> 32) & 1;
+            char letters[16];
+            std::snprintf(letters, sizeof letters, "%s%u.%07u", minus ? "-" : "", whole / 10000000, whole % 10000000);
+            texts[i] = letters;
+            const float value = std::strtof(letters, nullptr);
+            std::memcpy(&bits[i], &value, sizeof value);
+        }
+        uint8_t record[41];
+        all_right = all_right && parse(rgb_text(texts), record, sizeof record) == 0 &&
+                    Bytes(record, record + 41) == record_of(rgb_encoding(bits)) &&
+                    parse(gray_text(texts), record, sizeof record) == 0 &&
+                    Bytes(record, record + 41) == record_of(gray_encoding(bits));
+    }
+    expect(all_right, "numbers by chance");
+}
+
+// ---- texts that mix names and numbers, and texts that are none
+
+void mixed_texts() {
+    Encoding e = named(MERQYDUK_SPACE_RGB, MERQYDUK_WHITE_OWN, MERQYDUK_PRIMARIES_SRGB, MERQYDUK_CURVE_SRGB, 0);
+    e.wx = float_of(0x3ea01a37);
+    e.wy = float_of(0x3ea872b0);
+    // The white of D65 by its numbers is an own white, and the text no common name.
+    parses("RGB_0.3127000;0.3290000_SRG_Per_SRG", e);
+    e.wx = float_of(0x80000000);
+    e.wy = float_of(0x3f800000);
+    parses("RGB_-0.0000000;1.0000000_SRG_Per_SRG", e);
+    e.curve = MERQYDUK_CURVE_HLG;
+    e.intent = MERQYDUK_INTENT_ABSOLUTE;
+    parses("RGB_-0.0000000;1.0000000_SRG_Abs_HLG", e);
+    e.space = MERQYDUK_SPACE_GRAY;
+    parses("Gra_-0.0000000;1.0000000_Abs_HLG", e);
+
+    e = named(MERQYDUK_SPACE_RGB, MERQYDUK_WHITE_E, MERQYDUK_PRIMARIES_P3, MERQYDUK_CURVE_GAMMA, 2);
+    e.gamma = float_of(0x3ee8ba30);
+    parses("RGB_EER_DCI_Sat_g0.4545455", e);
+    e.gamma = float_of(0xc00ccccd);
+    parses("RGB_EER_DCI_Sat_g-2.2000000", e);
+    e.space = MERQYDUK_SPACE_GRAY;
+    e.primaries = 0;
+    parses("Gra_EER_Sat_g-2.2000000", e);
+
+    e = named(MERQYDUK_SPACE_RGB, MERQYDUK_WHITE_D65, MERQYDUK_PRIMARIES_OWN, MERQYDUK_CURVE_PQ, 1);
+    for (size_t i = 2; i < 8; i++) e.*float_members()[i] = float_of(usual_bits[i]);
+    parses("RGB_D65_0.6400000,0.3300000;0.3000000,0.6000000;2.1500000,1.2600000_Rel_PeQ", e);
+
+    // 52 in a description only.
+    for (const char *text : {"Gra_D65_Per_g0.0000000", "Gra_DCI_Rel_g-0.0000000", "RGB_D65_SRG_Per_g0.0000000",
+                             "RGB_EER_202_Abs_g-0.0000000", "RGB_D65_DCI_Sat_g0.0000000"})
+        refuses_text(text, 52);
+    for (const char *text : {"Gra_D65_Per_g0.0000000 ", " Gra_D65_Per_g0.0000000", "Gra_D66_Per_g0.0000000", "Gra_D65_g0.0000000",
+                             "Gra_D65_SRG_Per_g0.0000000", "RGB_D65_Per_g0.0000000", "XYB_Per_g0.0000000", "g0.0000000",
+                             "Gra_D65_Per_g00.0000000", "Gra_D65_Per_G0.0000000", "Gra_D65_Per_0.0000000", "Gra_D65_Per_g0.0000000_"})
+        refuses_text(text, 51);
+}
+
+void no_descriptions() {
+    const std::string texts[] = {
+        // a common name with a letter more or less, in another case, or with blanks
+        "", " ", "sRG", "sRGBs", "ssRGB", "sRGB ", " sRGB", "\tsRGB", "sRGB\n", "sRGB\r\n", "srgb", "SRGB", "sRgb", "RGB", "DisplayP",
+        "DisplayP3D", "DisplayP4", "displayP3", "DISPLAYP3", "Display P3", "Rec2100", "Rec2100P", "Rec2100PQ1", "Rec2100pq",
+        "Rec2100Pq", "rec2100PQ", "Rec2100HL", "Rec2100HLGG", "Rec2100hlg", "Rec2100PQRec2100HLG", "sRGB_Rel", "RGB_sRGB",
+        // NULs and bytes above 127
+        std::string("sRGB\0", 5), std::string("\0sRGB", 5), std::string("sR\0GB", 5), std::string("sRG\0", 4), std::string(1, '\0'),
+        std::string("RGB_D65_SRG_Rel_Lin\0", 20), std::string("RGB_D65\0SRG_Rel_Lin", 19), "sRG\xc2", "\xf3RGB", "\xff",
+        "\xef\xbb\xbfsRGB", "RGB_D65_SRG_Rel_Li\xee",
+        // parts missing, in another order, too many, or of another kind
+        "RGB_", "RGB__", "RGB____", "RGB_D65", "RGB_D65_SRG", "RGB_D65_SRG_Rel", "RGB_D65_SRG_Rel_", "RGB_D65_Rel_Lin", "RGB_SRG_Rel_Lin",
+        "RGB_D65_SRG_Lin_Rel", "RGB_SRG_D65_Rel_Lin", "RGB_D65_SRG_Rel_Lin_", "_RGB_D65_SRG_Rel_Lin", "RGB_D65_SRG_Rel_Lin_Lin",
+        "RGB__D65_SRG_Rel_Lin", "RGB D65 SRG Rel Lin", "RGB-D65-SRG-Rel-Lin", "RGBD65SRGRelLin", "RGB_D65_SRG_Rel_LinRGB_D65_SRG_Rel_Lin",
+        "rgb_d65_srg_rel_lin", "RGB_D65_SRG_REL_LIN", "RGB_D65_SRG_Rel_lin", "Rgb_D65_SRG_Rel_Lin", "CMY_D65_SRG_Rel_Lin",
+        "RGB_D50_SRG_Rel_Lin", "RGB_E_SRG_Rel_Lin", "RGB_EER_P3_Rel_Lin", "RGB_D65_SRGB_Rel_Lin", "RGB_D65_2020_Rel_Lin",
+        "RGB_D65_EER_Rel_Lin", "RGB_SRG_SRG_Rel_Lin", "RGB_202_SRG_Rel_Lin", "RGB_D65_709_Rel_Lin", "RGB_D65_SRG_Lin_Lin",
+        "RGB_D65_SRG_Rel_202", "RGB_D65_SRG_Rel_D65", "RGB_D65_SRG_Rel_Rel", "RGB_D65_SRG_Rel_g", "RGB_D65_SRG_Rel_gLin",
+        "RGB_D65_SRG_Rel_PQ", "RGB_D65_SRG_Rel_Lin ", " RGB_D65_SRG_Rel_Lin", "RGB_D65_SRG_Relative_Lin", "RGB_D65_SRG_Rel_Linear",
+        "Gra", "Gra_", "Gra_D65", "Gra_D65_Rel", "Gra_D65_Rel_", "Gra_Rel_Lin", "Gra_D65_SRG_Rel_Lin", "Gra_D65_Rel_Lin_", "gra_D65_Rel_Lin",
+        "Gray_D65_Rel_Lin", "GRA_D65_Rel_Lin", "XYB", "XYB_", "XYB_per", "XYB_Perc", "XYB_Per_", "XYB_D65_Per", "XYB_Per_SRG", "xyb_Per",
+        "XYB_Per ", "XYB_PerXYB_Per",
+        // other separators, and too few or too many numbers
+        "Gra_0.3100000,0.3200000_Rel_Lin", "Gra_0.3100000_Rel_Lin", "Gra_0.3100000;_Rel_Lin", "Gra_;0.3200000_Rel_Lin", "Gra_;_Rel_Lin",
+        "Gra_0.3100000;0.3200000;0.3300000_Rel_Lin", "Gra_0.3100000 0.3200000_Rel_Lin", "Gra_(0.3100000;0.3200000)_Rel_Lin",
+        "RGB_D65_0.6400000;0.3300000,0.3000000;0.6000000,0.1500000;0.0600000_Rel_Lin",
+        "RGB_D65_0.6400000;0.3300000;0.3000000;0.6000000;0.1500000;0.0600000_Rel_Lin",
+        "RGB_D65_0.6400000,0.3300000,0.3000000,0.6000000,0.1500000,0.0600000_Rel_Lin",
+        "RGB_D65_0.6400000,0.3300000;0.3000000,0.6000000_Rel_Lin", "RGB_D65_0.6400000,0.3300000;0.3000000,0.6000000;0.1500000_Rel_Lin",
+        "RGB_D65_0.6400000,0.3300000;0.3000000,0.6000000;0.1500000,0.0600000;_Rel_Lin",
+        "RGB_D65_0.6400000,0.3300000;0.3000000,0.6000000;0.1500000,0.0600000;0.1500000,0.0600000_Rel_Lin",
+        "RGB_D65_SRG;SRG;SRG_Rel_Lin", "RGB_D65,D65_SRG_Rel_Lin", "RGB_D65;D65_SRG_Rel_Lin",
+    };
+    for (const std::string &text : texts) refuses_text(text, 51);
+    expect(merqyduk_parse_description(nullptr, 0, nullptr, 0) == 51, "no text and no record");
+    // Longer than any description, and past the pages of Guarded.
+    uint8_t record[41];
+    expect(parse(std::string(1000000, 'R'), record, sizeof record) == 51, "a million letters");
+    expect(parse("RGB_D65_SRG_Rel_Lin" + std::string(1000000, ' '), record, sizeof record) == 51, "a million blanks");
+    expect(parse("Gra_D65_Rel_g0." + std::string(1000000, '0'), record, sizeof record) == 51, "a million digits");
+}
+
+// ---- the struct by itself
+
+void encoding_structs() {
+    Encoding e, before;
+    std::memset(&e, 0xa5, sizeof e);
+    before = e;
+    for (int space = 0; space < 256; space++) {
+        Bytes record(41);
+        for (size_t i = 0; i < 41; i++) record[i] = uint8_t(17 * i + 3);
+        record[0] = uint8_t(space);
+        e = before;
+        const bool known = space >= 1 && space <= 3;
+        expect(merqyduk_encoding_from_record(record.data(), &e) == (known ? 0u : 43u), "a record of space " + std::to_string(space));
+        if (known) expect(record_of(e) == record, "a record has all its bytes in the struct");
+        else expect(std::memcmp(&e, &before, sizeof e) == 0, "a record without meaning leaves the struct unchanged");
+    }
+    // Without a meaning is first the space, even where the other numbers have none.
+    for (uint32_t space : {0u, 4u, 255u, 257u, 0xffffffffu}) {
+        for (uint32_t other : {0u, 9u}) {
+            e = named(space, other, other, other, other);
+            refuses("a struct of space " + std::to_string(space), 43,
+                    {[=](uint8_t *out, size_t n) { return merqyduk_write(&e, out, n); },
+                     [=](size_t n) { return merqyduk_length(&e, n); }});
+        }
+    }
+    // What a space does not use is not read.
+    e = named(MERQYDUK_SPACE_GRAY, 0, 9, 2, 1);
+    expect(merqyduk_length(&e, 1200) == 328, "gray with primaries that have no meaning");
+    e = named(MERQYDUK_SPACE_XYB, 9, 9, 9, 0);
+    expect(merqyduk_length(&e, 1200) == 720, "XYB with a white that has no meaning");
+    e = named(MERQYDUK_SPACE_RGB, 0, 9, 2, 1);
+    expect(merqyduk_length(&e, 1200) == 43, "RGB with primaries that have no meaning");
+}
+
+void typed_texts() {
+    named_encodings();
+    good_numbers();
+    bad_numbers();
+    changed_numbers();
+    many_numbers();
+    mixed_texts();
+    no_descriptions();
+    encoding_structs();
+}
+
 void save(const std::string &folder, const std::string &name, const std::vector<uint8_t> &profile) {
     std::string path = folder + "/" + name + ".icc";
     FILE *file = std::fopen(path.c_str(), "wb");
@@ -497,6 +975,7 @@ int main(int argc, char **argv) {
     bad_files(srgb, gray_d65, xyb_only);
     good_jobs(srgb);
     bad_jobs();
+    typed_texts();
 
     std::printf("%d of %d\n", tried - failed, tried);
     return failed == 0 ? 0 : 1;

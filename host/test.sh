@@ -77,8 +77,10 @@ echo "library: no data that can be written; needs$(sed -n 's/.* U / /p' "$out/sy
 
 c++ -std=c++17 -O2 -Wall -Wextra -I"$prefix/include" "$here/test.cpp" "$library" -o "$out/test"
 "$out/test" "$out"
-c++ -std=c++11 -O2 -Wall -Wextra -I"$prefix/include" "$here/test_hpp.cpp" "$library" -o "$out/test_hpp"
-"$out/test_hpp"
+for standard in c++11 c++17; do
+    c++ -std=$standard -O2 -Wall -Wextra -I"$prefix/include" "$here/test_hpp.cpp" "$library" -o "$out/test_hpp"
+    "$out/test_hpp"
+done
 cc -std=gnu11 -O2 -Wall -Wextra -I"$prefix/include" "$here/stack.c" "$library" -Wl,-z,now -o "$out/stack"
 "$out/stack"
 

@@ -88,6 +88,77 @@ void encodings() {
     expect(length(Encoding::srgb(), 504).length() == 504, "504 bytes for sRGB, told before");
 }
 
+// The bits are compared: a zero has two.
+bool alike(float a, float b) { return std::memcmp(&a, &b, sizeof a) == 0; }
+
+bool alike(const Encoding &a, const Encoding &b) {
+    const Primaries &p = a.primaries, &q = b.primaries;
+    return a.kind == b.kind && a.white.kind == b.white.kind && alike(a.white.x, b.white.x) &&
+           alike(a.white.y, b.white.y) && p.kind == q.kind && alike(p.rx, q.rx) && alike(p.ry, q.ry) &&
+           alike(p.gx, q.gx) && alike(p.gy, q.gy) && alike(p.bx, q.bx) && alike(p.by, q.by) &&
+           a.curve.kind == b.curve.kind && alike(a.curve.gamma, b.curve.gamma) && a.intent == b.intent;
+}
+
+// The text is read as the encoding, and leads to its profile.
+void typed(const std::string &text, const Encoding &encoding) {
+    const Parsed parsed = parse(text.data(), text.size());
+    expect(parsed && parsed.refusal == 0, text + " is read");
+    expect(alike(parsed.encoding, encoding), text + " has the encoding that was meant");
+    const Profile profile = write(parsed.encoding), meant = write(encoding);
+    expect(profile.answer().refusal() == meant.answer().refusal() && profile.size() == meant.size() &&
+               std::memcmp(profile.data(), meant.data(), meant.size()) == 0,
+           text + " has the profile of the encoding");
+#if __cplusplus >= 201703L
+    expect(alike(parse(std::string_view(text)).encoding, encoding), text + " as a view");
+#endif
+}
+
+void refused(const std::string &text, std::uint32_t number) {
+    const Parsed parsed = parse(text.data(), text.size());
+    expect(!parsed && parsed.refusal == number, text + " refused");
+    expect(alike(parsed.encoding, Encoding()), text + ": the encoding is all zero");
+    expect(std::string(parsed.text()) == merqyduk_refusal_text(number), text + ": the text of its refusal");
+}
+
+void texts_of_encodings() {
+    const char *const whites[] = {"D65", "EER", "DCI", "0.3457000;-0.0000000"};
+    const char *const primaries[] = {"SRG", "202", "DCI", "0.6400000,0.3300000;0.2100000,0.7100000;0.1500000,0.0600000"};
+    const char *const curves[] = {"709", "Lin", "SRG", "PeQ", "DCI", "HLG", "g0.4500000"};
+    const char *const intents[] = {"Per", "Rel", "Sat", "Abs"};
+    for (std::uint32_t i = 0; i < 4; i++) {
+        const Intent intent = static_cast<Intent>(i);
+        typed(std::string("XYB_") + intents[i], Encoding::xyb(intent));
+        for (std::uint32_t w = 0; w < 4; w++)
+            for (std::uint32_t c = 0; c < 7; c++) {
+                const White white = w == 3 ? White::own(0.3457f, -0.0f) : White{w, 0, 0};
+                const Curve curve = c == 6 ? Curve::encoding_gamma(0.45f) : Curve{c, 0};
+                const std::string end = std::string("_") + intents[i] + "_" + curves[c];
+                typed(std::string("Gra_") + whites[w] + end, Encoding::gray(white, curve, intent));
+                for (std::uint32_t p = 0; p < 4; p++) {
+                    const bool common = w == 0 && ((p != 1 && p < 3 && c == 2 && i == 0) || (p == 1 && (c == 3 || c == 5) && i == 1));
+                    const Primaries own = Primaries::own(0.64f, 0.33f, 0.21f, 0.71f, 0.15f, 0.06f);
+                    const std::string text = std::string("RGB_") + whites[w] + "_" + primaries[p] + end;
+                    if (common) refused(text, MERQYDUK_REFUSED_TEXT);
+                    else typed(text, Encoding::rgb(white, p == 3 ? own : Primaries{p, 0, 0, 0, 0, 0, 0}, curve, intent));
+                }
+            }
+    }
+    typed("sRGB", Encoding::srgb());
+    typed("DisplayP3", Encoding::display_p3());
+    typed("Rec2100PQ", Encoding::rgb(White::d65(), Primaries::bt2100(), Curve::pq(), Intent::relative));
+    typed("Rec2100HLG", Encoding::rgb(White::d65(), Primaries::bt2100(), Curve::hlg(), Intent::relative));
+    refused("", MERQYDUK_REFUSED_TEXT);
+    refused("srgb", MERQYDUK_REFUSED_TEXT);
+    refused(std::string("sRGB", 5), MERQYDUK_REFUSED_TEXT);
+    refused("Gra_D65_Rel_g0.0000000", MERQYDUK_REFUSED_ZERO_GAMMA);
+    refused("Gra_D65_Rel_g-0.0000000", MERQYDUK_REFUSED_ZERO_GAMMA);
+    expect(parse(nullptr, 0).refusal == MERQYDUK_REFUSED_TEXT, "no text");
+    expect(bool(parse("sRGB and more", 4)), "a part of a text");
+#if __cplusplus >= 201703L
+    expect(bool(parse("sRGB")) && !parse(std::string("sRGB ")) && !parse(std::string_view()), "texts as views");
+#endif
+}
+
 void jobs() {
     // One RGB entry, sRGB, and one XYB entry, Relative.
     std::array<std::uint8_t, 44> bytes{};
@@ -127,18 +198,18 @@ void files() {
     expect(!find(profile.data(), profile.size() - 1, "kTRC"), "an element of a cut profile");
 }
 
-// The refusals of 01 have texts of their own, and no other number has one.
+// The refusals of 01 and 02 have texts of their own, and no other number has one.
 void texts() {
     const std::string other = merqyduk_refusal_text(0xffffffffu);
     std::set<std::string> seen{other};
     int named = 0;
     for (std::uint32_t n = 0; n <= 1300; n++) {
-        const bool known = n <= 9 || (n >= 21 && n <= 28) || (n >= 41 && n <= 43);
+        const bool known = n <= 9 || (n >= 21 && n <= 28) || (n >= 41 && n <= 43) || n == 51 || n == 52;
         const std::string text = merqyduk_refusal_text(n);
         expect(known == (text != other), "the text of " + std::to_string(n));
         if (known && seen.insert(text).second) named++;
     }
-    expect(named == 21, "texts that differ");
+    expect(named == 23, "texts that differ");
     expect(std::to_string(MERQYDUK_VERSION_MAJOR) + "." + std::to_string(MERQYDUK_VERSION_MINOR) + "." +
                    std::to_string(MERQYDUK_VERSION_PATCH) ==
                MERQYDUK_VERSION_STRING,
@@ -149,6 +220,7 @@ void texts() {
 
 int main() {
     encodings();
+    texts_of_encodings();
     jobs();
     files();
     texts();

@@ -9,7 +9,7 @@
  * it answers a number below 100, and all of the output is unchanged: one of MERQYDUK_REFUSED_..., or 0 where
  * the job has no such entry. Refusals are tested in this order: 41, 42, 43; then 0; then 1 to 9. An output of
  * MERQYDUK_MAX_PROFILE bytes is enough for every profile. A call that tells a profile's length, merqyduk_length_...,
- * answers the same number without an output. The calls that read a file say below what they answer.
+ * answers the same number without an output. The calls that read a file or a text say below what they answer.
  *
  * Id. A profile's id is its bytes 84 to 99, MERQYDUK_ID_SIZE bytes from MERQYDUK_ID_OFFSET on: MD5 of the
  * profile with bytes 44 to 47, 64 to 67 and 84 to 99 zero.
@@ -38,11 +38,12 @@
 
 #include <stddef.h>
 #include <stdint.h>
+#include <string.h>
 
 #define MERQYDUK_VERSION_MAJOR 0
-#define MERQYDUK_VERSION_MINOR 10
+#define MERQYDUK_VERSION_MINOR 11
 #define MERQYDUK_VERSION_PATCH 0
-#define MERQYDUK_VERSION_STRING "0.10.0"
+#define MERQYDUK_VERSION_STRING "0.11.0"
 
 /* The lengths of the profiles that are written, in bytes. */
 #define MERQYDUK_MIN_PROFILE 284
@@ -52,12 +53,22 @@
 #define MERQYDUK_ID_OFFSET 84
 #define MERQYDUK_ID_SIZE 16
 
+/* The bytes of an encoding's record. */
+#define MERQYDUK_ENCODING_SIZE 41
+
 /* Bytes of stack that are enough for every call. */
 #define MERQYDUK_STACK 8192
 
 #ifdef __cplusplus
 extern "C" {
 #endif
+
+/* Color spaces, by the number of their section in a job. */
+enum {
+    MERQYDUK_SPACE_GRAY = 1,
+    MERQYDUK_SPACE_RGB = 2,
+    MERQYDUK_SPACE_XYB = 3
+};
 
 /* White points. wx and wy are read for MERQYDUK_WHITE_OWN only. */
 enum {
@@ -118,7 +129,10 @@ enum {
     /* of a job; 43 of any other call as well */
     MERQYDUK_REFUSED_JOB_EARLY = 41,
     MERQYDUK_REFUSED_JOB_LEFT = 42,
-    MERQYDUK_REFUSED_MEANING = 43
+    MERQYDUK_REFUSED_MEANING = 43,
+    /* of reading a text */
+    MERQYDUK_REFUSED_TEXT = 51,
+    MERQYDUK_REFUSED_ZERO_GAMMA = 52
 };
 
 /* What a refusal means, as a constant ASCII text; any number has one. */
@@ -163,7 +177,11 @@ static inline const char *merqyduk_refusal_text(uint32_t refusal) {
     case MERQYDUK_REFUSED_JOB_LEFT:
         return "the job has bytes left after its third section";
     case MERQYDUK_REFUSED_MEANING:
-        return "a kind, curve or intent has no meaning";
+        return "a space, kind, curve or intent has no meaning";
+    case MERQYDUK_REFUSED_TEXT:
+        return "the text is no description of an encoding";
+    case MERQYDUK_REFUSED_ZERO_GAMMA:
+        return "a gamma in the text is zero";
     case 0:
         return "no refusal, or no such entry in the job";
     default:
@@ -191,6 +209,115 @@ uint32_t merqyduk_length_rgb(uint32_t white, float wx, float wy, uint32_t primar
                              size_t capacity);
 
 uint32_t merqyduk_length_xyb(uint32_t intent, size_t capacity);
+
+/* ---- an encoding as one value */
+
+/* An encoding. A member that a space does not use is not read, and is 0 where a call fills the struct. */
+struct merqyduk_encoding {
+    uint32_t space;      /* MERQYDUK_SPACE_... */
+    uint32_t white;      /* gray and RGB: MERQYDUK_WHITE_... */
+    float wx, wy;        /* of MERQYDUK_WHITE_OWN */
+    uint32_t primaries;  /* RGB: MERQYDUK_PRIMARIES_... */
+    float rx, ry, gx, gy, bx, by; /* of MERQYDUK_PRIMARIES_OWN */
+    uint32_t curve;      /* gray and RGB: MERQYDUK_CURVE_... */
+    float gamma;         /* of MERQYDUK_CURVE_GAMMA */
+    uint32_t intent;     /* MERQYDUK_INTENT_... */
+};
+
+/* What the call that writes this space answers, and what the one that tells its length answers; MERQYDUK_REFUSED_MEANING
+ * before all else where the space has no meaning. */
+static inline uint32_t merqyduk_write(const struct merqyduk_encoding *e, uint8_t *out, size_t out_len) {
+    switch (e->space) {
+    case MERQYDUK_SPACE_GRAY:
+        return merqyduk_write_gray(e->white, e->wx, e->wy, e->curve, e->gamma, e->intent, out, out_len);
+    case MERQYDUK_SPACE_RGB:
+        return merqyduk_write_rgb(e->white, e->wx, e->wy, e->primaries, e->rx, e->ry, e->gx, e->gy, e->bx, e->by,
+                                  e->curve, e->gamma, e->intent, out, out_len);
+    case MERQYDUK_SPACE_XYB:
+        return merqyduk_write_xyb(e->intent, out, out_len);
+    default:
+        return MERQYDUK_REFUSED_MEANING;
+    }
+}
+
+static inline uint32_t merqyduk_length(const struct merqyduk_encoding *e, size_t capacity) {
+    switch (e->space) {
+    case MERQYDUK_SPACE_GRAY:
+        return merqyduk_length_gray(e->white, e->wx, e->wy, e->curve, e->gamma, e->intent, capacity);
+    case MERQYDUK_SPACE_RGB:
+        return merqyduk_length_rgb(e->white, e->wx, e->wy, e->primaries, e->rx, e->ry, e->gx, e->gy, e->bx, e->by,
+                                   e->curve, e->gamma, e->intent, capacity);
+    case MERQYDUK_SPACE_XYB:
+        return merqyduk_length_xyb(e->intent, capacity);
+    default:
+        return MERQYDUK_REFUSED_MEANING;
+    }
+}
+
+/* A record is an encoding as MERQYDUK_ENCODING_SIZE bytes: the space, and then the 40 bytes of an RGB entry of a job:
+ * white, wx, wy, primaries, rx, ry, gx, gy, bx, by, curve, gamma, intent; a number is one byte and a float its four bytes,
+ * the most significant first. What the space does not use is 0. */
+
+static inline float merqyduk_record_float(const uint8_t *at) {
+    const uint32_t bits = (uint32_t)at[0] << 24 | (uint32_t)at[1] << 16 | (uint32_t)at[2] << 8 | at[3];
+    float value;
+    memcpy(&value, &bits, sizeof value);
+    return value;
+}
+
+/* Fills the struct from the bytes of a record and answers 0. Or it answers MERQYDUK_REFUSED_MEANING where the space has no
+ * meaning, and the struct is unchanged. The other numbers are taken as they are; the calls that write refuse them. */
+static inline uint32_t merqyduk_encoding_from_record(const uint8_t *record, struct merqyduk_encoding *e) {
+    if (record[0] < MERQYDUK_SPACE_GRAY || record[0] > MERQYDUK_SPACE_XYB) return MERQYDUK_REFUSED_MEANING;
+    e->space = record[0];
+    e->white = record[1];
+    e->wx = merqyduk_record_float(record + 2);
+    e->wy = merqyduk_record_float(record + 6);
+    e->primaries = record[10];
+    e->rx = merqyduk_record_float(record + 11);
+    e->ry = merqyduk_record_float(record + 15);
+    e->gx = merqyduk_record_float(record + 19);
+    e->gy = merqyduk_record_float(record + 23);
+    e->bx = merqyduk_record_float(record + 27);
+    e->by = merqyduk_record_float(record + 31);
+    e->curve = record[35];
+    e->gamma = merqyduk_record_float(record + 36);
+    e->intent = record[40];
+    return 0;
+}
+
+/* ---- an encoding typed as a text
+ *
+ * The text is the description of an encoding, as a profile holds it in desc and as jxl-rs has it:
+ *    RGB_WHITE_PRIMARIES_INTENT_CURVE, Gra_WHITE_INTENT_CURVE or XYB_INTENT
+ *    WHITE      D65, EER, DCI or x;y
+ *    PRIMARIES  SRG, 202, DCI or x,y;x,y;x,y for red, green and blue
+ *    INTENT     Per, Rel, Sat or Abs
+ *    CURVE      709, Lin, SRG, PeQ, DCI, HLG or g and a gamma
+ * or a common name. Such a name stands in place of its long form, which is then no description:
+ *    sRGB        RGB_D65_SRG_Per_SRG
+ *    DisplayP3   RGB_D65_DCI_Per_SRG
+ *    Rec2100PQ   RGB_D65_202_Rel_PeQ
+ *    Rec2100HLG  RGB_D65_202_Rel_HLG
+ * A coordinate or a gamma is an optional minus, one or two whole digits, of two the first not 0, a point and seven
+ * digits: 0.3127000. It means the nearest float; -0.0000000 means negative zero. Letters are upper or lower case as above,
+ * and there is nothing before, between or after. */
+
+/* Reads a text, which need not end in a NUL, into a record: answers 0, and the record stands at the front of what is lent,
+ * the rest unchanged. Or it answers, tested in this order, MERQYDUK_REFUSED_TEXT where the text is no description,
+ * MERQYDUK_REFUSED_ZERO_GAMMA where it is one whose gamma is zero of either sign, or MERQYDUK_REFUSED_OUTPUT where less is
+ * lent than MERQYDUK_ENCODING_SIZE bytes; and all that is lent is unchanged. PQ and HLG are read; the calls that write
+ * refuse them. */
+uint32_t merqyduk_parse_description(const uint8_t *text, size_t text_len, uint8_t *record, size_t record_len);
+
+/* The same into a struct, which is unchanged where the text is refused: merqyduk_parse("sRGB", 4, &encoding). */
+static inline uint32_t merqyduk_parse(const char *text, size_t text_len, struct merqyduk_encoding *e) {
+    uint8_t record[MERQYDUK_ENCODING_SIZE];
+    const uint32_t refusal = merqyduk_parse_description((const uint8_t *)text, text_len, record, sizeof record);
+    return refusal ? refusal : merqyduk_encoding_from_record(record, e);
+}
+
+/* ---- jobs */
 
 /* A job is a list of color encodings as bytes: three sections, gray, RGB and XYB, each a count of one byte and then as
  * many entries. docs/JOB.md has the bytes; the numbers in them are those above. A job is refused as a whole: 41 and 42

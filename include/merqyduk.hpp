@@ -16,6 +16,10 @@
 #include <string>
 #include <vector>
 
+#if __cplusplus >= 201703L
+#include <string_view>
+#endif
+
 namespace merqyduk {
 
 // ---- what a profile is written for
@@ -201,6 +205,44 @@ inline Answer write(const Encoding &encoding, std::vector<std::uint8_t> &out) {
     if (profile) out.assign(profile.begin(), profile.end());
     return profile.answer();
 }
+
+// ---- typed texts
+
+// What a text says: its encoding, or the refusal that stands in its place; then the encoding is all zero.
+struct Parsed {
+    std::uint32_t refusal;
+    Encoding encoding;
+
+    explicit operator bool() const noexcept { return refusal == 0; }
+    // What the refusal means.
+    const char *text() const noexcept { return merqyduk_refusal_text(refusal); }
+};
+
+// The text is a description, such as sRGB or RGB_D65_SRG_Rel_Lin: merqyduk.h has its language.
+inline Parsed parse(const char *text, std::size_t text_len) noexcept {
+    Parsed made = Parsed();
+    merqyduk_encoding e;
+    made.refusal = merqyduk_parse(text, text_len, &e);
+    if (!made) return made;
+    const White white = {e.white, e.wx, e.wy};
+    const Curve curve = {e.curve, e.gamma};
+    const Intent intent = static_cast<Intent>(e.intent);
+    switch (e.space) {
+    case MERQYDUK_SPACE_GRAY:
+        made.encoding = Encoding::gray(white, curve, intent);
+        break;
+    case MERQYDUK_SPACE_RGB:
+        made.encoding = Encoding::rgb(white, {e.primaries, e.rx, e.ry, e.gx, e.gy, e.bx, e.by}, curve, intent);
+        break;
+    default:
+        made.encoding = Encoding::xyb(intent);
+    }
+    return made;
+}
+
+#if __cplusplus >= 201703L
+inline Parsed parse(std::string_view text) noexcept { return parse(text.data(), text.size()); }
+#endif
 
 // ---- jobs
 

@@ -8,7 +8,7 @@ use mathlib.Core.List.{List}
 use lib.Dec.{eqb, leb}
 use lib.ListN.{length}
 use Rattle.buffer.specs.Buffer.{put}
-use Rattle.buffer.specs.Checked.{Checked, then}
+use Rattle.buffer.specs.Checked.{Checked, is, refused, valueOr, then}
 use Rattle.color_encoding.specs.declared.JxlColorEncoding.{JxlColorEncoding}
 use Rattle.encoding_plan.specs.PlanOf.{planOf}
 use Rattle.profile.specs.Elements.{Entry}
@@ -19,6 +19,7 @@ use Rattle.job_output.specs.declared.JobProfile.{JobProfile}
 use Rattle.job_output.specs.declared.JobProfile.the-variants as J
 use Rattle.reading.specs.declared.Reading.{Reading}
 use Rattle.plan_record.specs.PlanRecord.{recordSize, planRecord}
+use Rattle.encoding_record.specs.EncodingRecord.{encodingSize, encodingRecord}
 
 -- ---- the profile of an encoding that comes by codes
 
@@ -66,6 +67,22 @@ readNumber a lent = cond (eqb (a .refusal) 0) (cond (leb recordSize lent) 0 tooS
 pub record ReadsPlan (a : Reading) (before after : List ℕ) (r : ℕ) : Type 0 where
   pub answer : r ≡ readNumber a (length before)
   pub plan : after ≡ cond (eqb (readNumber a (length before)) 0) (put before 0 (planRecord a)) before
+
+-- ---- a typed text read into a lent record
+
+-- the lent record at exit, which was l at entry: the encoding's record at its front, or the number of the refusal; then 9 where l is shorter
+abbrev pub stored : Checked JxlColorEncoding → List ℕ → Checked (List ℕ)
+stored c l = then c (λ e. cond (leb encodingSize (length l)) (is (put l 0 (encodingRecord e))) (refused tooShort))
+
+-- 0 where something was stored; the refusal
+abbrev pub storedNumber : {A : Type 0} → Checked A → ℕ
+storedNumber (is a) = 0
+storedNumber (refused n) = n
+
+-- by the encoding that the text describes; on a refusal all of the lent record is as it was
+pub record StoresEncoding (c : Checked JxlColorEncoding) (before after : List ℕ) (r : ℕ) : Type 0 where
+  pub answer : r ≡ storedNumber (stored c before)
+  pub encoding : after ≡ valueOr before (stored c before)
 
 -- ---- an element of a file
 

@@ -5,7 +5,7 @@ use mathlib.Core.List.{List}
 use borrow.Author.Tests.{le-leb, lt-leb, eq-eqb, ne-eqb}
 use lib.ListN.{length}
 use Rattle.buffer.specs.Buffer.{put}
-use Rattle.buffer.specs.Checked.{is}
+use Rattle.buffer.specs.Checked.{Checked, is, refused}
 use Rattle.color_encoding.specs.declared.JxlColorEncoding.{JxlColorEncoding}
 use Rattle.profile.specs.Elements.{Entry}
 use Rattle.writer.specs.Writer.{tooShort, number, profileBy, Creates, MeasuresProfile}
@@ -13,7 +13,8 @@ use Rattle.writer.specs.declared.Profile.{Profile}
 use Rattle.writer_laws.specs.RefusalNumbers.{answer-told}
 use Rattle.reading.specs.declared.Reading.{Reading}
 use Rattle.plan_record.specs.PlanRecord.{recordSize, planRecord}
-use Rattle.host.specs.Host.{WritesCode, MeasuresCode, ReadsPlan, FindsElement}
+use Rattle.encoding_record.specs.EncodingRecord.{encodingSize, encodingRecord}
+use Rattle.host.specs.Host.{WritesCode, MeasuresCode, ReadsPlan, StoresEncoding, FindsElement}
 
 -- the answer q, as the one number that it is, without an output
 pub code-measured : {e : JxlColorEncoding} {n : ℕ} {p q : Profile} → MeasuresProfile e n p → p ≡ q → MeasuresCode (is e) n (number q)
@@ -45,6 +46,18 @@ module _ (a : Reading) (before : List ℕ) where
         let yes = eq-eqb (a .refusal) 0 h in
         let long = le-leb recordSize (length before) g in
         record { answer = simp (yes, long); plan = simp (yes, long) e }
+
+-- ---- a typed text read into a lent record
+
+pub not-stored : {c : Checked JxlColorEncoding} {n : ℕ} (before : List ℕ) → c ≡ refused n → StoresEncoding c before before n
+not-stored before e = record { answer = rw e; encoding = rw e }
+
+module _ {c : Checked JxlColorEncoding} {e : JxlColorEncoding} (before : List ℕ) (known : c ≡ is e) where
+  pub stored-short : length before < encodingSize → StoresEncoding c before before tooShort
+  stored-short h = let no = lt-leb encodingSize (length before) h in record { answer = rw (known, no); encoding = rw (known, no) }
+
+  pub stored-whole : {after : List ℕ} → encodingSize ≤ length before → after ≡ put before 0 (encodingRecord e) → StoresEncoding c before after 0
+  stored-whole h q = let long = le-leb encodingSize (length before) h in record { answer = rw (known, long); encoding = rw (known, long) q }
 
 -- ---- an element of a file
 

@@ -1,12 +1,14 @@
-// The writer, the job, the reader and the finder for C and C++: include/merqyduk.h declares these entries. An encoding comes as numbers, a job and a
-// file as bytes, and the output is lent. A call that writes answers the profile's length (284 or more) or a number below 100, and then the output
+// The writer, the job, the reader, the finder and the parser of descriptions for C and C++: include/merqyduk.h declares these entries. An encoding
+// comes as numbers, a job, a file and a text as bytes, and the output is lent. A call that writes answers the profile's length (284 or more) or a number below 100, and then the output
 // is unchanged; one that reads answers 0 or a number, and then the lent record is unchanged.
 use color_encoding::EncodingCode;
+use description_parser::Parsed;
 use job::JobAnswer;
 use job_output::JobProfile;
 use writer::Profile;
 ghost use Rattle.color_encoding.specs.Codes.{whitePointFrom, primariesFrom, transferFunctionFrom, intentFrom};
 ghost use Rattle.color_encoding.specs.Codes.{knownEncoding, grayFrom, rgbFrom, xybFrom};
+ghost use Rattle.description_parser.specs.Parse.{parse};
 ghost use Rattle.job.specs.Job as Job;
 ghost use Rattle.job.specs.Job.{jobAnswer, entryAnswer};
 ghost use Rattle.job_output.specs.JobOutput.{ProfileOf};
@@ -14,7 +16,7 @@ ghost use Rattle.words.specs.Words.{be32};
 ghost use Rattle.reader_spec.specs.Read as Read;
 ghost use Rattle.reader_spec.specs.Finder as Finder;
 ghost use Rattle.reading.specs.Reading.{reading};
-ghost use Rattle.host.specs.Host.{WritesCode, MeasuresCode, CountsEntries, profileNumber, ReadsPlan, FindsElement};
+ghost use Rattle.host.specs.Host.{WritesCode, MeasuresCode, CountsEntries, profileNumber, ReadsPlan, StoresEncoding, FindsElement};
 
 // ---- the profile of an encoding
 
@@ -170,6 +172,24 @@ pub extern "C" fn merqyduk_length_xyb(intent: u32, capacity: usize) -> u32
     ensures { λ r. ⌜ MeasuresCode (xybFrom (intentFrom intent)) capacity r ⌝ }
 {
     length(encoding_codes::xyb_from_number(intent), capacity)
+}
+
+// ---- the encoding that a typed text describes
+
+#[no_mangle]
+pub extern "C" fn merqyduk_parse_description(text: &[u8], encoding: &mut [u8]) -> u32
+    ensures { λ r. ⌜ StoresEncoding (parse (now (text .entry))) (now (encoding .entry)) (now (encoding .exit)) r ⌝ }
+{
+    match description_parser::parse_description(text) {
+        Parsed::Encoding(parsed) => {
+            if encoding.len() < encoding_record::ENCODING_SIZE {
+                return writer::TOO_SHORT;
+            }
+            encoding_record::put_encoding_record(encoding, 0, parsed);
+            0
+        }
+        Parsed::Refused(number) => number,
+    }
 }
 
 // ---- jobs
