@@ -194,6 +194,9 @@ whole-holds w l r e = first (steps (oneDigit 0 l) second e)
         (λ (h : cond (eqb a 0) nothing (andThen (oneDigit a m) point) ≡ found w r). later a m g (kept-not (eqb a 0) (andThen (oneDigit a m) point) h))
         (either (point a m) (cond (eqb a 0) nothing (andThen (oneDigit a m) point)) (s .second))
 
+pub whole-below : (l : List ℕ) {w : ℕ} {r : List ℕ} → wholePart l ≡ found w r → w < 100
+whole-below l {w} {r} e = whole-holds w l r e .0
+
 -- ---- the number times 10 ^ 7
 
 seven : (q : ℕ) → without 7 q ≡ q / 10 ^ 7

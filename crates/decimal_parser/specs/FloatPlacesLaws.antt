@@ -9,15 +9,14 @@ use mathlib.Core.Bool.{Bool, true, false, cond, _&&_}
 use mathlib.Core.List.{List, [], _∷_}
 use borrow.Author.Tests.{ltb-true, lt-ltb, le-ltb, le-leb, lt-leb, eq-eqb, ne-eqb}
 use lib.Dec.{leb, ltb, eqb, lit≤}
-use lib.Ieee.{Float, binary32, round}
 use lib.ListN.{length, drop, getD}
 use lib.Seq.{drop-cons}
 use Rattle.buffer.specs.Ascii.{ascii}
 use Rattle.buffer.specs.BoolLaws.{both-right}
 use Rattle.scanner.specs.Scan.{Found, nothing, found, andThen, orElse, startsWith}
 use Rattle.scanner.specs.PlacesLaws.{drop-all, drop-next}
-use Rattle.decimal_parser.specs.ParseFloat.{isDigit, oneDigit, moreDigits, point, unsigned, withSign, float}
-use Rattle.decimal_parser.specs.FloatPlaces.{frontDigit}
+use Rattle.decimal_parser.specs.ParseFloat.{isDigit, oneDigit, moreDigits, point, wholePart, withSign, float}
+use Rattle.decimal_parser.specs.FloatPlaces.{frontDigit, unsignedFrom}
 
 -- ---- one digit
 
@@ -130,67 +129,68 @@ abbrev second : ℕ → List ℕ → Found ℕ
 second a m = orElse (point a m) (cond (eqb a 0) nothing (andThen (oneDigit a m) point))
 
 module _ (text : List ℕ) (at : ℕ) where
-  pub no-digit : 10 ≤ frontDigit (drop at text) → unsigned (drop at text) ≡ nothing
-  unfolding unsigned
-  no-digit h = ap (λ (f : Found ℕ). andThen (andThen f second) (moreDigits 7)) (one-missing 0 (drop at text) h)
+  pub no-digit : 10 ≤ frontDigit (drop at text) → wholePart (drop at text) ≡ nothing
+  unfolding wholePart
+  no-digit h = ap (λ (f : Found ℕ). andThen f second) (one-missing 0 (drop at text) h)
 
   module _ (a : ℕ) (is : a ≡ frontDigit (drop at text)) (small : a < 10) where
-    first : unsigned (drop at text) ≡ andThen (second a (drop (at + 1) text)) (moreDigits 7)
-    unfolding unsigned
+    first : wholePart (drop at text) ≡ second a (drop (at + 1) text)
+    unfolding wholePart
     first =
-        ap (λ (f : Found ℕ). andThen (andThen f second) (moreDigits 7)) (one-found 0 (drop at text) (subst (λ (x : ℕ). x < 10) is small))
-        ∙ ap (λ (x : ℕ). andThen (second x (drop 1 (drop at text))) (moreDigits 7)) (alone (frontDigit (drop at text)) ∙ sym is)
-        ∙ ap (λ (m : List ℕ). andThen (second a m) (moreDigits 7)) (drop-next at text)
+        ap (λ (f : Found ℕ). andThen f second) (one-found 0 (drop at text) (subst (λ (x : ℕ). x < 10) is small))
+        ∙ ap (λ (x : ℕ). second x (drop 1 (drop at text))) (alone (frontDigit (drop at text)) ∙ sym is)
+        ∙ ap (second a) (drop-next at text)
       where
         alone : (x : ℕ) → 0 * 10 + x ≡ x
         alone x = omega arith
 
-    pub one-whole : startsWith (ascii ".") (drop (at + 1) text) ≡ true → unsigned (drop at text) ≡ moreDigits 7 a (drop (at + 1 + 1) text)
-    one-whole h =
-        first
-        ∙ ap (λ (f : Found ℕ). andThen (orElse f (cond (eqb a 0) nothing (andThen (oneDigit a (drop (at + 1) text)) point))) (moreDigits 7))
-        (ap (λ (t : Bool). cond t (found a (drop 1 (drop (at + 1) text))) nothing) h)
-        ∙ ap (moreDigits 7 a) (drop-next (at + 1) text)
+    -- by whether a point follows the first digit
+    abbrev with-point : Bool → Found ℕ
+    with-point t = orElse (cond t (found a (drop 1 (drop (at + 1) text))) nothing) (cond (eqb a 0) nothing (andThen (oneDigit a (drop (at + 1) text)) point))
+
+    pub one-whole : startsWith (ascii ".") (drop (at + 1) text) ≡ true → wholePart (drop at text) ≡ found a (drop (at + 1 + 1) text)
+    one-whole h = first ∙ ap with-point h ∙ ap (found a) (drop-next (at + 1) text)
 
     module _ (no-point : startsWith (ascii ".") (drop (at + 1) text) ≡ false) where
-      later : unsigned (drop at text) ≡ andThen (cond (eqb a 0) nothing (andThen (oneDigit a (drop (at + 1) text)) point)) (moreDigits 7)
-      later =
-          first
-          ∙ ap (λ (f : Found ℕ). andThen (orElse f (cond (eqb a 0) nothing (andThen (oneDigit a (drop (at + 1) text)) point))) (moreDigits 7))
-          (ap (λ (t : Bool). cond t (found a (drop 1 (drop (at + 1) text))) nothing) no-point)
-
-      pub needless-zero : a ≡ 0 → unsigned (drop at text) ≡ nothing
-      needless-zero z = later ∙ ap (λ (t : Bool). andThen (cond t nothing (andThen (oneDigit a (drop (at + 1) text)) point)) (moreDigits 7)) (eq-eqb a 0 z)
+      pub needless-zero : a ≡ 0 → wholePart (drop at text) ≡ nothing
+      needless-zero z = first ∙ ap with-point no-point ∙ ap (λ (t : Bool). cond t nothing (andThen (oneDigit a (drop (at + 1) text)) point)) (eq-eqb a 0 z)
 
       module _ (some : a ≡ 0 → ⊥) where
-        next : unsigned (drop at text) ≡ andThen (andThen (oneDigit a (drop (at + 1) text)) point) (moreDigits 7)
-        next = later ∙ ap (λ (t : Bool). andThen (cond t nothing (andThen (oneDigit a (drop (at + 1) text)) point)) (moreDigits 7)) (ne-eqb a 0 some)
+        next : wholePart (drop at text) ≡ andThen (oneDigit a (drop (at + 1) text)) point
+        next = first ∙ ap with-point no-point ∙ ap (λ (t : Bool). cond t nothing (andThen (oneDigit a (drop (at + 1) text)) point)) (ne-eqb a 0 some)
 
-        pub no-second : 10 ≤ frontDigit (drop (at + 1) text) → unsigned (drop at text) ≡ nothing
-        no-second h = next ∙ ap (λ (f : Found ℕ). andThen (andThen f point) (moreDigits 7)) (one-missing a (drop (at + 1) text) h)
+        pub no-second : 10 ≤ frontDigit (drop (at + 1) text) → wholePart (drop at text) ≡ nothing
+        no-second h = next ∙ ap (λ (f : Found ℕ). andThen f point) (one-missing a (drop (at + 1) text) h)
 
         module _ (b : ℕ) (is-b : b ≡ frontDigit (drop (at + 1) text)) (small-b : b < 10) where
-          both : unsigned (drop at text) ≡ andThen (cond (startsWith (ascii ".") (drop (at + 1 + 1) text)) (found (a * 10 + b) (drop (at + 1 + 1 + 1) text)) nothing) (moreDigits 7)
-          both =
+          -- by whether a point follows the second digit
+          both : {t : Bool} → startsWith (ascii ".") (drop (at + 1 + 1) text) ≡ t → wholePart (drop at text) ≡ cond t (found (a * 10 + b) (drop (at + 1 + 1 + 1) text)) nothing
+          both h =
               next
-              ∙ ap (λ (f : Found ℕ). andThen (andThen f point) (moreDigits 7)) (one-found a (drop (at + 1) text) (subst (λ (x : ℕ). x < 10) is-b small-b))
-              ∙ ap (λ (x : ℕ). andThen (point (a * 10 + x) (drop 1 (drop (at + 1) text))) (moreDigits 7)) (sym is-b)
-              ∙ ap (λ (m : List ℕ). andThen (point (a * 10 + b) m) (moreDigits 7)) (drop-next (at + 1) text)
-              ∙ ap (λ (m : List ℕ). andThen (cond (startsWith (ascii ".") (drop (at + 1 + 1) text)) (found (a * 10 + b) m) nothing) (moreDigits 7)) (drop-next (at + 1 + 1) text)
+              ∙ ap (λ (f : Found ℕ). andThen f point) (one-found a (drop (at + 1) text) (subst (λ (x : ℕ). x < 10) is-b small-b))
+              ∙ ap (λ (x : ℕ). point (a * 10 + x) (drop 1 (drop (at + 1) text))) (sym is-b)
+              ∙ ap (point (a * 10 + b)) (drop-next (at + 1) text)
+              ∙ ap (λ (m : List ℕ). cond (startsWith (ascii ".") (drop (at + 1 + 1) text)) (found (a * 10 + b) m) nothing) (drop-next (at + 1 + 1) text)
+              ∙ ap (λ (t : Bool). cond t (found (a * 10 + b) (drop (at + 1 + 1 + 1) text)) nothing) h
 
-          pub two-whole : startsWith (ascii ".") (drop (at + 1 + 1) text) ≡ true → unsigned (drop at text) ≡ moreDigits 7 (a * 10 + b) (drop (at + 1 + 1 + 1) text)
-          two-whole h = both ∙ ap (λ (t : Bool). andThen (cond t (found (a * 10 + b) (drop (at + 1 + 1 + 1) text)) nothing) (moreDigits 7)) h
+          pub two-whole : startsWith (ascii ".") (drop (at + 1 + 1) text) ≡ true → wholePart (drop at text) ≡ found (a * 10 + b) (drop (at + 1 + 1 + 1) text)
+          two-whole h = both h
 
-          pub no-second-point : startsWith (ascii ".") (drop (at + 1 + 1) text) ≡ false → unsigned (drop at text) ≡ nothing
-          no-second-point h = both ∙ ap (λ (t : Bool). andThen (cond t (found (a * 10 + b) (drop (at + 1 + 1 + 1) text)) nothing) (moreDigits 7)) h
+          pub no-second-point : startsWith (ascii ".") (drop (at + 1 + 1) text) ≡ false → wholePart (drop at text) ≡ nothing
+          no-second-point h = both h
 
 -- ---- the sign
 
-pub with-minus : (text : List ℕ) (at : ℕ) → startsWith (ascii "-") (drop at text) ≡ true → withSign true (drop (at + 1) text) ≡ float (drop at text)
-unfolding float
-with-minus text at e =
-    ap (withSign true) (sym (drop-next at text)) ∙ sym (ap (λ (t : Bool). cond t (withSign true (drop 1 (drop at text))) (withSign false (drop at text))) e)
+pub behind-minus : (text : List ℕ) (at : ℕ) → startsWith (ascii "-") (drop at text) ≡ true → drop (at + 1) text ≡ unsignedFrom (drop at text)
+behind-minus text at e = sym (ap (λ (t : Bool). cond t (drop 1 (drop at text)) (drop at text)) e ∙ drop-next at text)
 
-pub without-minus : (text : List ℕ) (at : ℕ) → startsWith (ascii "-") (drop at text) ≡ false → withSign false (drop at text) ≡ float (drop at text)
+pub no-minus-there : (text : List ℕ) (at : ℕ) → startsWith (ascii "-") (drop at text) ≡ false → drop at text ≡ unsignedFrom (drop at text)
+no-minus-there text at e = sym (ap (λ (t : Bool). cond t (drop 1 (drop at text)) (drop at text)) e)
+
+pub by-sign : (l : List ℕ) → withSign (startsWith (ascii "-") l) (unsignedFrom l) ≡ float l
 unfolding float
-without-minus text at e = sym (ap (λ (t : Bool). cond t (withSign true (drop 1 (drop at text))) (withSign false (drop at text))) e)
+by-sign l = go (startsWith (ascii "-") l)
+  where
+    go : (t : Bool) → withSign t (cond t (drop 1 l) l) ≡ cond t (withSign true (drop 1 l)) (withSign false l)
+    go true = refl
+    go false = refl

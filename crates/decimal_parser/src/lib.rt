@@ -8,8 +8,8 @@ ghost use Prim.Native.Nat.{_+_, _*_, _^_, _<_, _≤_};
 ghost use lib.Ieee.{binary32, ofBits, round};
 ghost use lib.Ieee.Nearest.{closest};
 ghost use lib.ListN.{drop};
-ghost use Rattle.decimal_parser.specs.ParseFloat.{moreDigits, unsigned, withSign, float};
-ghost use Rattle.decimal_parser.specs.FloatPlaces.{frontDigit, decimalAt, floatAt};
+ghost use Rattle.decimal_parser.specs.ParseFloat.{wholePart, moreDigits, unsigned, float};
+ghost use Rattle.decimal_parser.specs.FloatPlaces.{frontDigit, unsignedFrom, decimalAt, floatAt};
 
 // ---- the nearest f32 of q / 10^7
 
@@ -114,6 +114,35 @@ fn digit_at(text: &[u8], at: usize) -> u64
     c - 48
 }
 
+// One digit, or two of which the first is not zero, and the point.
+fn whole_at(text: &[u8], at: usize) -> DecimalAt
+    ensures { λ r. ⌜ decimalAt (now (text .entry)) r ≡ wholePart (drop at (now (text .entry))) ⌝ }
+{
+    let a = digit_at(text, at);
+    if 10 <= a {
+        return DecimalAt::Nothing;
+    }
+    let p = at + 1;
+    if letter_at(text, p, b'.') {
+        return DecimalAt::Found { q: a, next: p + 1 };
+    }
+    if a == 0 {
+        return DecimalAt::Nothing;
+    }
+    let b = digit_at(text, p);
+    if 10 <= b {
+        return DecimalAt::Nothing;
+    }
+    let e = p + 1;
+    if letter_at(text, e, b'.') {
+        return DecimalAt::Found {
+            q: a * 10 + b,
+            next: e + 1,
+        };
+    }
+    DecimalAt::Nothing
+}
+
 // Seven digits after a whole part.
 fn seven_digits(text: &[u8], at: usize, whole: u64) -> DecimalAt
     requires { ⌜ whole < 100 ⌝ }
@@ -134,42 +163,24 @@ fn seven_digits(text: &[u8], at: usize, whole: u64) -> DecimalAt
     DecimalAt::Found { q, next: p }
 }
 
-// One or two whole digits without a needless leading zero, a point, seven digits.
+// A number without its sign.
 fn unsigned_at(text: &[u8], at: usize) -> DecimalAt
     ensures { λ r. ⌜ decimalAt (now (text .entry)) r ≡ unsigned (drop at (now (text .entry))) ⌝ }
 {
-    let a = digit_at(text, at);
-    if 10 <= a {
+    let DecimalAt::Found { q, next } = whole_at(text, at) else {
         return DecimalAt::Nothing;
-    }
-    let p = at + 1;
-    if letter_at(text, p, b'.') {
-        return seven_digits(text, p + 1, a);
-    }
-    if a == 0 {
-        return DecimalAt::Nothing;
-    }
-    let b = digit_at(text, p);
-    if 10 <= b {
-        return DecimalAt::Nothing;
-    }
-    let e = p + 1;
-    if letter_at(text, e, b'.') {
-        return seven_digits(text, e + 1, a * 10 + b);
-    }
-    DecimalAt::Nothing
+    };
+    seven_digits(text, next, q)
 }
 
-// The float of the digits at a place, with a sign.
-fn signed_at(text: &[u8], at: usize, negative: bool) -> FloatAt
-    ensures { λ r. ⌜ floatAt (now (text .entry)) r ≡ withSign negative (drop at (now (text .entry))) ⌝ }
+// The place of a number's digits: behind its minus.
+fn digits_start(text: &[u8], at: usize) -> usize
+    ensures { λ r. ⌜ drop r (now (text .entry)) ≡ unsignedFrom (drop at (now (text .entry))) ⌝ }
 {
-    match unsigned_at(text, at) {
-        DecimalAt::Found { q, next } => FloatAt::Found {
-            x: nearest_f32(negative, q),
-            next,
-        },
-        DecimalAt::Nothing => FloatAt::Nothing,
+    if letter_at(text, at, b'-') {
+        at + 1
+    } else {
+        at
     }
 }
 
@@ -177,8 +188,12 @@ fn signed_at(text: &[u8], at: usize, negative: bool) -> FloatAt
 pub fn float_at(text: &[u8], at: usize) -> FloatAt
     ensures { λ r. ⌜ floatAt (now (text .entry)) r ≡ float (drop at (now (text .entry))) ⌝ }
 {
-    if letter_at(text, at, b'-') {
-        return signed_at(text, at + 1, true);
+    let negative = letter_at(text, at, b'-');
+    match unsigned_at(text, digits_start(text, at)) {
+        DecimalAt::Found { q, next } => FloatAt::Found {
+            x: nearest_f32(negative, q),
+            next,
+        },
+        DecimalAt::Nothing => FloatAt::Nothing,
     }
-    signed_at(text, at, false)
 }
