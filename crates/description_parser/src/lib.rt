@@ -19,10 +19,10 @@ use scanner::past_front;
 ghost use mathlib.Core.Path.{_≡_};
 ghost use mathlib.Core.List.{List};
 ghost use Prim.Native.Nat.{ℕ};
-ghost use Rattle.scanner.specs.Scan.{orElse};
+ghost use Rattle.scanner.specs.Scan.{found, orElse};
 ghost use Rattle.description_parser.specs.Language.{zeroTransfer, zeroGamma};
-ghost use lib.ListN.{drop};
-ghost use Rattle.description_parser.specs.Parse.{rgbOf, rgb, gray, xyb, common, encoding, parse};
+ghost use lib.ListN.{length, drop};
+ghost use Rattle.description_parser.specs.Parse.{rgbOf, rgb, gray, xyb, common, encoding, answer, parse};
 ghost use Rattle.description_parser.specs.Parsed.{encodingAt, parsed};
 
 // The refusals: the text is not in the language; a gamma is zero.
@@ -258,18 +258,26 @@ fn zero_gamma(encoding: JxlColorEncoding) -> bool
     }
 }
 
+// The answer to an encoding that was found in the front of a text of this length: nothing may follow it, and its gamma is not zero.
+fn checked(text_len: usize, encoding: JxlColorEncoding, next: usize) -> Parsed
+    ensures { λ r. ⌜ ((text : List ℕ) → length text ≡ «text_len» → parsed r ≡ answer (found encoding (drop next text))) ⌝ }
+{
+    let zero = zero_gamma(encoding);
+    if next < text_len {
+        return Parsed::Refused(NOT_IN_LANGUAGE);
+    }
+    if zero {
+        return Parsed::Refused(GAMMA_IS_ZERO);
+    }
+    Parsed::Encoding(encoding)
+}
+
 // The encoding that a text describes.
 pub fn parse_description(text: &[u8]) -> Parsed
     ensures { λ r. ⌜ parsed r ≡ parse (now (text .entry)) ⌝ }
 {
-    let EncodingAt::Found { encoding, next } = encoding_at(text) else {
-        return Parsed::Refused(NOT_IN_LANGUAGE);
-    };
-    if next < text.len() {
-        return Parsed::Refused(NOT_IN_LANGUAGE);
+    match encoding_at(text) {
+        EncodingAt::Found { encoding, next } => checked(text.len(), encoding, next),
+        EncodingAt::Nothing => Parsed::Refused(NOT_IN_LANGUAGE),
     }
-    if zero_gamma(encoding) {
-        return Parsed::Refused(GAMMA_IS_ZERO);
-    }
-    Parsed::Encoding(encoding)
 }
