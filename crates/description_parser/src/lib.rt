@@ -90,13 +90,15 @@ fn rgb_at(text: &[u8]) -> EncodingAt
     let IntentAt::Found {
         rendering_intent,
         next,
-    } = intent_at(text, past(text, next, b'_')) else {
+    } = intent_at(text, past(text, next, b'_'))
+    else {
         return EncodingAt::Nothing;
     };
     let TransferAt::Found {
         transfer_function,
         next,
-    } = transfer_at(text, past(text, next, b'_')) else {
+    } = transfer_at(text, past(text, next, b'_'))
+    else {
         return EncodingAt::Nothing;
     };
     unless_named(
@@ -118,13 +120,15 @@ fn gray_at(text: &[u8]) -> EncodingAt
     let IntentAt::Found {
         rendering_intent,
         next,
-    } = intent_at(text, past(text, next, b'_')) else {
+    } = intent_at(text, past(text, next, b'_'))
+    else {
         return EncodingAt::Nothing;
     };
     let TransferAt::Found {
         transfer_function,
         next,
-    } = transfer_at(text, past(text, next, b'_')) else {
+    } = transfer_at(text, past(text, next, b'_'))
+    else {
         return EncodingAt::Nothing;
     };
     EncodingAt::Found {
@@ -140,7 +144,11 @@ fn gray_at(text: &[u8]) -> EncodingAt
 fn xyb_at(text: &[u8]) -> EncodingAt
     ensures { λ r. ⌜ encodingAt (now (text .entry)) r ≡ xyb (now (text .entry)) ⌝ }
 {
-    let IntentAt::Found { rendering_intent, next } = intent_at(text, past_front(text, b"XYB_")) else {
+    let IntentAt::Found {
+        rendering_intent,
+        next,
+    } = intent_at(text, past_front(text, b"XYB_"))
+    else {
         return EncodingAt::Nothing;
     };
     EncodingAt::Found {
@@ -216,7 +224,10 @@ fn or_else(x: EncodingAt, y: EncodingAt) -> EncodingAt
     ensures { λ r. ⌜ ((text : List ℕ) → encodingAt text r ≡ orElse (encodingAt text x) (encodingAt text y)) ⌝ }
 {
     match x {
-        EncodingAt::Found { encoding: _, next: _ } => x,
+        EncodingAt::Found {
+            encoding: _,
+            next: _,
+        } => x,
         EncodingAt::Nothing => y,
     }
 }
@@ -254,7 +265,9 @@ fn zero_gamma(encoding: JxlColorEncoding) -> bool
             transfer_function,
             rendering_intent: _,
         } => zero_transfer(transfer_function),
-        JxlColorEncoding::XYB { rendering_intent: _ } => false,
+        JxlColorEncoding::XYB {
+            rendering_intent: _,
+        } => false,
     }
 }
 
