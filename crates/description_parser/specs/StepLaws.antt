@@ -23,9 +23,32 @@ use Rattle.scanner.specs.Scan.{Found, nothing, found, andThen, orElse, mapped, 
 use Rattle.scanner.specs.Places.{behind}
 use Rattle.scanner.specs.PlacesLaws.{joined-none, joined-step}
 use Rattle.names_parser.specs.ParseNames.{intent, white, primaries, transfer}
-use Rattle.names_parser.specs.NamesLaws.{intent-end, primaries-end, transfer-end}
+use Rattle.names_parser.specs.NamesLaws.{primaries-end}
 use Rattle.description_parser.specs.Language.{isZero}
-use Rattle.description_parser.specs.Parse.{rgbFields, unlessNamed, rgbOf, rgb, grayFields, grayOf, gray, notInLanguage, answer}
+use Rattle.description_parser.specs.Parsed.{ending}
+use Rattle.description_parser.specs.Parse.{RgbFields, rgbFields, unlessNamed, rgbOf, rgb, GrayFields, grayFields, grayOf, gray, notInLanguage, answer}
+
+-- ---- three parts: what follows the first
+
+module _ {A B C : Type 0} (f : List ℕ → Found A) (n : List ℕ) (g : List ℕ → Found B) (m : List ℕ) (h : List ℕ → Found C) (l : List ℕ) where
+  -- the third part beside what was found before it
+  abbrev third : {D : Type 0} → D → List ℕ → Found (D × C)
+  third d s = mapped (λ c. (d, c)) (after m h s)
+
+  -- the first part beside the two others
+  abbrev beside : A → B × C → (A × B) × C
+  beside a q = ((a, q .0), q .1)
+
+  pub joined-rest : {a : A} {r : List ℕ} → f l ≡ found a r → joined (joined f n g) m h l ≡ mapped (beside a) (joined (after n g) m h r)
+  joined-rest {a} {r} e = ap (λ (x : Found A). andThen (andThen x (λ a r. mapped (λ b. (a, b)) (after n g r))) third) e ∙ second (after n g r)
+    where
+      last : (b : B) (y : Found C) → mapped {B = (A × B) × C} (λ c. ((a, b), c)) y ≡ mapped (beside a) (mapped {B = B × C} (λ c. (b, c)) y)
+      last b nothing = refl
+      last b (found c s) = refl
+
+      second : (x : Found B) → andThen (mapped {B = A × B} (λ b. (a, b)) x) third ≡ mapped (beside a) (andThen x third)
+      second nothing = refl
+      second (found b s) = last b (after m h s)
 
 -- ---- RGB
 
@@ -36,33 +59,24 @@ module _ (l : List ℕ) where
   abbrev rgbPrimaries : List ℕ → Found (JxlWhitePoint × JxlPrimaries)
   rgbPrimaries = joined rgbWhite underscore primaries
 
-  abbrev rgbIntent : List ℕ → Found ((JxlWhitePoint × JxlPrimaries) × RenderingIntent)
-  rgbIntent = joined rgbPrimaries underscore intent
-
-  no-intent : rgbIntent l ≡ nothing → rgb l ≡ nothing
+  -- without a white or primaries there is no RGB encoding
+  missing : rgbPrimaries l ≡ nothing → rgb l ≡ nothing
   unfolding rgb rgbFields
-  no-intent e = ap (λ (x : Found (((JxlWhitePoint × JxlPrimaries) × RenderingIntent) × JxlTransferFunction)). andThen x rgbOf) (joined-none rgbIntent underscore transfer l e)
+  missing e = ap (λ (x : Found RgbFields). andThen x rgbOf) (joined-none (joined rgbPrimaries underscore intent) underscore transfer l (joined-none rgbPrimaries underscore intent l e))
 
   pub rgb-no-white : rgbWhite l ≡ nothing → rgb l ≡ nothing
-  rgb-no-white e = no-intent (joined-none rgbPrimaries underscore intent l (joined-none rgbWhite underscore primaries l e))
+  rgb-no-white e = missing (joined-none rgbWhite underscore primaries l e)
 
   module _ {w : JxlWhitePoint} {m : List ℕ} (e : rgbWhite l ≡ found w m) where
     pub rgb-no-primaries : primaries (behind underscore m) ≡ nothing → rgb l ≡ nothing
-    rgb-no-primaries h = no-intent (joined-none rgbPrimaries underscore intent l (joined-step rgbWhite underscore primaries l primaries-end e h))
+    rgb-no-primaries h = missing (joined-step rgbWhite underscore primaries l primaries-end e h)
 
-    module _ {p : JxlPrimaries} {o : List ℕ} (f : primaries (behind underscore m) ≡ found p o) where
-      both : rgbPrimaries l ≡ found (w, p) o
-      both = joined-step rgbWhite underscore primaries l primaries-end e f
-
-      pub rgb-no-intent : intent (behind underscore o) ≡ nothing → rgb l ≡ nothing
-      rgb-no-intent h = no-intent (joined-step rgbPrimaries underscore intent l intent-end both h)
-
-      pub rgb-transfer : {i : RenderingIntent} {s : List ℕ} {y : Found JxlTransferFunction} → intent (behind underscore o) ≡ found i s → transfer (behind underscore s) ≡ y
-          → rgb l ≡ andThen (mapped (λ t. (((w, p), i), t)) y) rgbOf
-      unfolding rgb rgbFields
-      rgb-transfer g h =
-          ap (λ (x : Found (((JxlWhitePoint × JxlPrimaries) × RenderingIntent) × JxlTransferFunction)). andThen x rgbOf)
-          (joined-step rgbIntent underscore transfer l transfer-end (joined-step rgbPrimaries underscore intent l intent-end both g) h)
+    pub rgb-ends : {p : JxlPrimaries} {o : List ℕ} {y : Found (RenderingIntent × JxlTransferFunction)} → primaries (behind underscore m) ≡ found p o → ending o ≡ y
+        → rgb l ≡ andThen (mapped {B = RgbFields} (λ q. (((w, p), q .0), q .1)) y) rgbOf
+    unfolding rgb rgbFields ending
+    rgb-ends {p} h k =
+        ap (λ (x : Found RgbFields). andThen x rgbOf)
+        (joined-rest rgbPrimaries underscore intent underscore transfer l (joined-step rgbWhite underscore primaries l primaries-end e h) ∙ ap (mapped (beside rgbPrimaries underscore intent underscore transfer l (w, p))) k)
 
 -- ---- gray
 
@@ -70,24 +84,14 @@ module _ (l : List ℕ) where
   abbrev grayWhite : List ℕ → Found JxlWhitePoint
   grayWhite = after (ascii "Gra_") white
 
-  abbrev grayIntent : List ℕ → Found (JxlWhitePoint × RenderingIntent)
-  grayIntent = joined grayWhite underscore intent
-
-  missing : grayIntent l ≡ nothing → gray l ≡ nothing
-  unfolding gray grayFields
-  missing e = ap (mapped grayOf) (joined-none grayIntent underscore transfer l e)
-
   pub gray-no-white : grayWhite l ≡ nothing → gray l ≡ nothing
-  gray-no-white e = missing (joined-none grayWhite underscore intent l e)
+  unfolding gray grayFields
+  gray-no-white e = ap (mapped grayOf) (joined-none (joined grayWhite underscore intent) underscore transfer l (joined-none grayWhite underscore intent l e))
 
-  module _ {w : JxlWhitePoint} {m : List ℕ} (e : grayWhite l ≡ found w m) where
-    pub gray-no-intent : intent (behind underscore m) ≡ nothing → gray l ≡ nothing
-    gray-no-intent h = missing (joined-step grayWhite underscore intent l intent-end e h)
-
-    pub gray-transfer : {i : RenderingIntent} {o : List ℕ} {y : Found JxlTransferFunction} → intent (behind underscore m) ≡ found i o → transfer (behind underscore o) ≡ y
-        → gray l ≡ mapped grayOf (mapped (λ t. ((w, i), t)) y)
-    unfolding gray grayFields
-    gray-transfer g h = ap (mapped grayOf) (joined-step grayIntent underscore transfer l transfer-end (joined-step grayWhite underscore intent l intent-end e g) h)
+  pub gray-ends : {w : JxlWhitePoint} {m : List ℕ} {y : Found (RenderingIntent × JxlTransferFunction)} → grayWhite l ≡ found w m → ending m ≡ y
+      → gray l ≡ mapped grayOf (mapped {B = GrayFields} (λ q. ((w, q .0), q .1)) y)
+  unfolding gray grayFields ending
+  gray-ends {w} e k = ap (mapped grayOf) (joined-rest grayWhite underscore intent underscore transfer l e ∙ ap (mapped (beside grayWhite underscore intent underscore transfer l w)) k)
 
 -- ---- a common name
 

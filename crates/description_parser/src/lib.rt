@@ -23,7 +23,7 @@ ghost use Rattle.scanner.specs.Scan.{found, orElse};
 ghost use Rattle.description_parser.specs.Language.{zeroTransfer, zeroGamma};
 ghost use lib.ListN.{length, drop};
 ghost use Rattle.description_parser.specs.Parse.{rgbOf, rgb, gray, xyb, common, encoding, answer, parse};
-ghost use Rattle.description_parser.specs.Parsed.{encodingAt, parsed};
+ghost use Rattle.description_parser.specs.Parsed.{ending, endAt, encodingAt, parsed};
 
 // The refusals: the text is not in the language; a gamma is zero.
 pub const NOT_IN_LANGUAGE: u32 = 51;
@@ -45,7 +45,40 @@ enum EncodingAt {
     Nothing,
 }
 
+// An intent and a curve, and the place after them.
+enum EndAt {
+    Found {
+        rendering_intent: RenderingIntent,
+        transfer_function: JxlTransferFunction,
+        next: usize,
+    },
+    Nothing,
+}
+
 // ---- the long forms
+
+// The end of a long form: an underscore and the intent, an underscore and the curve.
+fn end_at(text: &[u8], at: usize) -> EndAt
+    ensures { λ r. ⌜ endAt (now (text .entry)) r ≡ ending (drop at (now (text .entry))) ⌝ }
+{
+    let IntentAt::Found {
+        rendering_intent,
+        next,
+    } = intent_at(text, past(text, at, b'_')) else {
+        return EndAt::Nothing;
+    };
+    let TransferAt::Found {
+        transfer_function,
+        next: end,
+    } = transfer_at(text, past(text, next, b'_')) else {
+        return EndAt::Nothing;
+    };
+    EndAt::Found {
+        rendering_intent,
+        transfer_function,
+        next: end,
+    }
+}
 
 // An RGB encoding, and the place after its long form; nothing where a common name replaces the long form.
 fn unless_named(
@@ -87,18 +120,11 @@ fn rgb_at(text: &[u8]) -> EncodingAt
     let PrimariesAt::Found { primaries, next } = primaries_at(text, past(text, next, b'_')) else {
         return EncodingAt::Nothing;
     };
-    let IntentAt::Found {
+    let EndAt::Found {
         rendering_intent,
-        next,
-    } = intent_at(text, past(text, next, b'_'))
-    else {
-        return EncodingAt::Nothing;
-    };
-    let TransferAt::Found {
         transfer_function,
         next,
-    } = transfer_at(text, past(text, next, b'_'))
-    else {
+    } = end_at(text, next) else {
         return EncodingAt::Nothing;
     };
     unless_named(
@@ -117,18 +143,11 @@ fn gray_at(text: &[u8]) -> EncodingAt
     let WhiteAt::Found { white_point, next } = white_at(text, past_front(text, b"Gra_")) else {
         return EncodingAt::Nothing;
     };
-    let IntentAt::Found {
+    let EndAt::Found {
         rendering_intent,
-        next,
-    } = intent_at(text, past(text, next, b'_'))
-    else {
-        return EncodingAt::Nothing;
-    };
-    let TransferAt::Found {
         transfer_function,
         next,
-    } = transfer_at(text, past(text, next, b'_'))
-    else {
+    } = end_at(text, next) else {
         return EncodingAt::Nothing;
     };
     EncodingAt::Found {

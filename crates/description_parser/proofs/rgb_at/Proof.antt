@@ -1,4 +1,4 @@
--- White, primaries, intent and curve in turn. Assumes nothing.
+-- White, primaries, and then the end. Assumes nothing.
 use Prim.Native.Nat.{ℕ}
 use mathlib.Core.Path.{_≡_, sym, ap, _∙_}
 use mathlib.Core.List.{List}
@@ -9,16 +9,15 @@ use Rattle.scanner.specs.Scan.{found, andThen, mapped, after}
 use Rattle.scanner.specs.Places.{behind}
 use Rattle.scanner.specs.PlacesLaws.{after-behind}
 use Rattle.text.specs.Description.{underscore}
-use Rattle.names_parser.specs.declared.TransferAt.{TransferAt}
-use Rattle.names_parser.specs.ParseNames.{intent, white, primaries, transfer}
-use Rattle.names_parser.specs.NamePlaces.{intentAt, whiteAt, primariesAt, transferAt}
+use Rattle.names_parser.specs.ParseNames.{white, primaries}
+use Rattle.names_parser.specs.NamePlaces.{whiteAt, primariesAt}
 use Rattle.names_parser.specs.NamesLaws.{white-end}
-use Rattle.description_parser.specs.Parse.{rgbOf, rgb}
-use Rattle.description_parser.specs.StepLaws.{rgb-no-white, rgb-no-primaries, rgb-no-intent, rgb-transfer}
+use Rattle.description_parser.specs.declared.EndAt.{EndAt}
+use Rattle.description_parser.specs.Parse.{RgbFields, rgbOf, rgb}
+use Rattle.description_parser.specs.Parsed.{endAt}
+use Rattle.description_parser.specs.StepLaws.{rgb-no-white, rgb-no-primaries, rgb-ends}
 use Rattle.description_parser.proofs.rgb_at.Statement.{statement}
 use Rattle.description_parser.proofs.rgb_at.Tie as tie
-
--- ---- what is found, part after part
 
 module _ (c : tie.After-white-at) where
   abbrev text : List ℕ
@@ -43,51 +42,21 @@ module _ (c : tie.After-primaries-at) where
       primaries (behind underscore (drop (white-told .before .white-point .given .0 .1 .0) t)) ≡ primariesAt t (c .primaries-at .result)
   primaries-are = sym (c .primaries-at .ensures ∙ ap primaries (c .before .past .ensures))
 
-module _ (k : tie.After-known-told2) where
+module _ (c : tie.After-end-at) where
+  abbrev told : tie.After-known-told2
+  told = c .before
+
   abbrev at-primaries : tie.After-primaries-at
-  at-primaries = k .before .before .before
-
-  primaries-found :
-      let t = text (start (white-told at-primaries)) in
-      primaries (behind underscore (drop (white-told at-primaries .before .white-point .given .0 .1 .0) t)) ≡ found (k .before .primaries .given .0 .0) (drop (k .before .primaries .given .0 .1 .0) t)
-  primaries-found = primaries-are at-primaries ∙ ap (primariesAt (text (start (white-told at-primaries)))) (k .before .primaries .given .1)
-
-module _ (c : tie.After-intent-at) where
-  abbrev primaries-told : tie.After-known-told2
-  primaries-told = c .before .before
-
-  intent-is :
-      let t = text (start (white-told (at-primaries primaries-told))) in
-      intent (behind underscore (drop (primaries-told .before .primaries .given .0 .1 .0) t)) ≡ intentAt t (c .intent-at .result)
-  intent-is = sym (c .intent-at .ensures ∙ ap intent (c .before .past2 .ensures))
-
-module _ (c : tie.After-transfer-at) where
-  abbrev intent-told : tie.After-known-told3
-  intent-told = c .before .before
-
-  abbrev at-intent : tie.After-intent-at
-  at-intent = intent-told .before .before .before
-
-  abbrev of-primaries : tie.After-known-told2
-  of-primaries = primaries-told at-intent
-
-  abbrev of-white : tie.After-known-told
-  of-white = white-told (at-primaries of-primaries)
+  at-primaries = told .before .before .before
 
   abbrev whole : List ℕ
-  whole = text (start of-white)
+  whole = text (start (white-told at-primaries))
 
-  transfer-is : transfer (behind underscore (drop (intent-told .before .rendering-intent .given .0 .1 .0) whole)) ≡ transferAt whole (c .transfer-at .result)
-  transfer-is = sym (c .transfer-at .ensures ∙ ap transfer (c .before .past3 .ensures))
-
-  rgb-is : (y : TransferAt) → c .transfer-at .result ≡ y →
-      rgb whole
-      ≡ andThen (mapped (λ t. (((of-white .before .white-point .given .0 .0, of-primaries .before .primaries .given .0 .0), intent-told .before .rendering-intent .given .0 .0), t)) (transferAt whole y)) rgbOf
+  rgb-is : (y : EndAt) → c .end-at .result ≡ y →
+      andThen (mapped {B = RgbFields} (λ q. (((white-told at-primaries .before .white-point .given .0 .0, told .before .primaries .given .0 .0), q .0), q .1)) (endAt whole y)) rgbOf ≡ rgb whole
   rgb-is y e =
-      rgb-transfer whole (white-found of-white) (primaries-found of-primaries) (intent-is at-intent ∙ ap (intentAt whole) (intent-told .before .rendering-intent .given .1))
-      (transfer-is ∙ ap (transferAt whole) e)
-
--- ---- the needs
+      sym (rgb-ends whole (white-found (white-told at-primaries)) (primaries-are at-primaries ∙ ap (primariesAt whole) (told .before .primaries .given .1))
+      (sym (c .end-at .ensures) ∙ ap (endAt whole) e))
 
 returns : tie.Need-returns
 returns c = let d = c .before .before in sym (rgb-no-white (text d) (white-is d ∙ ap (whiteAt (text d)) (c .enum-told .given .1)))
@@ -99,21 +68,14 @@ returns-2 c =
     sym (rgb-no-primaries t (white-found (white-told d)) (primaries-are d ∙ ap (primariesAt t) (c .enum-told2 .given .1)))
 
 returns-3 : tie.Need-returns-3
-returns-3 c =
-    let d = c .before .before in
-    let k = primaries-told d in
-    let t = text (start (white-told (at-primaries k))) in
-    sym (rgb-no-intent t (white-found (white-told (at-primaries k))) (primaries-found k) (intent-is d ∙ ap (intentAt t) (c .enum-told3 .given .1)))
+returns-3 c = rgb-is (c .before .before) EndAt.Nothing (c .enum-told3 .given .1)
 
 returns-4 : tie.Need-returns-4
-returns-4 c = sym (rgb-is (c .before .before) TransferAt.Nothing (c .enum-told4 .given .1))
-
-returns-5 : tie.Need-returns-5
-returns-5 c =
+returns-4 c =
     let k = c .before in
     let d = k .before .before .before in
-    let g = k .before .transfer-function .given in
-    c .unless-named .ensures (whole d) ∙ sym (rgb-is d (TransferAt.Found (g .0 .0) (g .0 .1 .0)) (g .1))
+    let g = k .before .rendering-intent .given in
+    c .unless-named .ensures (whole d) ∙ rgb-is d (EndAt.Found (g .0 .0) (g .0 .1 .0) (g .0 .1 .1 .0)) (g .1)
 
 pub rgb-at-spec : {M : Type 1} → statement M
 rgb-at-spec =
@@ -131,14 +93,8 @@ rgb-at-spec =
     (λ c. search needs)
     returns-2
     (λ c κs. search needs)
-    (λ c κs. search needs)
     (λ c. search needs)
     (λ c. search needs)
     returns-3
     (λ c κs. search needs)
-    (λ c κs. search needs)
-    (λ c. search needs)
-    (λ c. search needs)
-    returns-4
-    (λ c κs. search needs)
-    returns-5)
+    returns-4)
