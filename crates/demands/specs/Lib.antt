@@ -6,3 +6,5 @@ pub mod ToldLaws
 pub mod Demand3Laws
 pub mod Demand3
 pub mod DryCall
+pub mod TypedTextLaws
+pub mod TypedText

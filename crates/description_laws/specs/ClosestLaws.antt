@@ -12,12 +12,12 @@ use Rattle.floats.specs.RoundingLaws.{closest-below, closest-above, closest-tie
 use Rattle.description_laws.specs.Distance.{away}
 
 -- of two different multiples of b, one is larger by b at least
-data Beside (b r v : ℕ) : Type 0 where
+pub data Beside (b r v : ℕ) : Type 0 where
   same : v ≡ r → Beside b r v
   less : v * b + b ≤ r * b → Beside b r v
   more : r * b + b ≤ v * b → Beside b r v
 
-beside : (b r v : ℕ) → Beside b r v
+pub beside : (b r v : ℕ) → Beside b r v
 beside b r v = go (ltb v r) (ltb r v) refl refl
   where
     up : (i j : ℕ) → i < j → i * b + b ≤ j * b
@@ -29,13 +29,13 @@ beside b r v = go (ltb v r) (ltb r v) refl refl
     go false false p q = same (le-antisymm (ltb-false r v q) (ltb-false v r p))
 
 -- r * b is at most half of b away from a, and r is even where it is half of b
-record Half (a b r : ℕ) : Type 0 where
-  most : away a (r * b) * 2 ≤ b
-  even : away a (r * b) * 2 ≡ b → r % 2 ≡ 0
+pub record Half (a b r : ℕ) : Type 0 where
+  pub most : away a (r * b) * 2 ≤ b
+  pub even : away a (r * b) * 2 ≡ b → r % 2 ≡ 0
 
 module _ (a b : ℕ) (B : 0 < b) where
-  half : Half a b (closest a b)
-  half = go (ltb (a % b * 2) b) (ltb b (a % b * 2)) refl refl
+  pub closest-half : Half a b (closest a b)
+  closest-half = go (ltb (a % b * 2) b) (ltb b (a % b * 2)) refl refl
     where
       rest : a % b < b
       rest = mod-lt a B
@@ -77,13 +77,13 @@ module _ (a b : ℕ) (B : 0 < b) where
     where
       go : Beside b (closest a b) v → away a (closest a b * b) ≤ away a (v * b)
       go (same e) = le-of-eq (ap (λ (x : ℕ). away a (x * b)) (sym e))
-      go (less h) = omega (arith, half .most)
-      go (more h) = omega (arith, half .most)
+      go (less h) = omega (arith, closest-half .most)
+      go (more h) = omega (arith, closest-half .most)
 
   pub closest-even : (v : ℕ) → away a (closest a b * b) ≡ away a (v * b) → (v ≡ closest a b) ⊎ (closest a b % 2 ≡ 0)
   closest-even v e = go (beside b (closest a b) v)
     where
       go : Beside b (closest a b) v → (v ≡ closest a b) ⊎ (closest a b % 2 ≡ 0)
       go (same p) = inl p
-      go (less h) = inr (half .even (omega (arith, half .most)))
-      go (more h) = inr (half .even (omega (arith, half .most)))
+      go (less h) = inr (closest-half .even (omega (arith, closest-half .most)))
+      go (more h) = inr (closest-half .even (omega (arith, closest-half .most)))

@@ -1,6 +1,7 @@
 pub mod PartsLaws
 pub mod EncodingLaws
 pub mod ReadsLaws
+pub mod HeldLaws
 pub mod ZeroLaws
 pub mod Distance
 pub mod ClosestLaws

@@ -64,13 +64,15 @@ fn end_at(text: &[u8], at: usize) -> EndAt
     let IntentAt::Found {
         rendering_intent,
         next,
-    } = intent_at(text, past(text, at, b'_')) else {
+    } = intent_at(text, past(text, at, b'_'))
+    else {
         return EndAt::Nothing;
     };
     let TransferAt::Found {
         transfer_function,
         next: end,
-    } = transfer_at(text, past(text, next, b'_')) else {
+    } = transfer_at(text, past(text, next, b'_'))
+    else {
         return EndAt::Nothing;
     };
     EndAt::Found {
@@ -124,7 +126,8 @@ fn rgb_at(text: &[u8]) -> EncodingAt
         rendering_intent,
         transfer_function,
         next,
-    } = end_at(text, next) else {
+    } = end_at(text, next)
+    else {
         return EncodingAt::Nothing;
     };
     unless_named(
@@ -147,7 +150,8 @@ fn gray_at(text: &[u8]) -> EncodingAt
         rendering_intent,
         transfer_function,
         next,
-    } = end_at(text, next) else {
+    } = end_at(text, next)
+    else {
         return EncodingAt::Nothing;
     };
     EncodingAt::Found {
