@@ -11,12 +11,6 @@ use Rattle.decimal_parser.proofs.digit_at.Tie as tie
 returns : tie.Need-returns
 returns c = let s = c .before .before .args in digit-past (s .text .now) (s .at) (c .if1 .taken)
 
-shared-slice-read-widened : tie.Need-shared-slice-read-widened
-shared-slice-read-widened c = search needs
-
-widened-requires : tie.Need-widened-requires
-widened-requires c κs = search needs
-
 returns-2 : tie.Need-returns-2
 returns-2 c =
     let s = c .before .before .before .before .before .args in
@@ -44,4 +38,4 @@ returns-4 c =
 
 pub digit-at-spec : {M : Type 1} → statement M
 digit-at-spec =
-    tie.close (tie.spec returns shared-slice-read-widened widened-requires returns-2 returns-3 returns-4)
+    tie.close (tie.spec returns (λ c. search needs) (λ c κs. search needs) returns-2 returns-3 returns-4)

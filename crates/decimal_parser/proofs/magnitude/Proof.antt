@@ -12,18 +12,6 @@ use Rattle.decimal_parser.proofs.magnitude.Tie as tie
 returns : tie.Need-returns
 returns c = (search needs, λ s. zero-pattern s ∙ ap (λ (x : ℕ). round binary32 s x (10 ^ 7)) (sym (c .if1 .taken)))
 
-scale-requires : tie.Need-scale-requires
-scale-requires c κs = search needs
-
-sub-result : tie.Need-sub-result
-sub-result c = search needs
-
-mul-result : tie.Need-mul-result
-mul-result c = search needs
-
-nearest-quotient-requires : tie.Need-nearest-quotient-requires
-nearest-quotient-requires c κs = search needs
-
 done : (c : tie.After-nearest-quotient) →
     let n = c .before .scale .result .n in
     let j = c .before .scale .result .j in
@@ -44,9 +32,9 @@ magnitude-spec =
     tie.close
     (tie.spec
     returns
-    scale-requires
-    sub-result
-    mul-result
-    nearest-quotient-requires
+    (λ c κs. search needs)
+    (λ c. search needs)
+    (λ c. search needs)
+    (λ c κs. search needs)
     add-result
     returns-2)

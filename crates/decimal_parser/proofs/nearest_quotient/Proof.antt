@@ -5,15 +5,6 @@ use Rattle.floats.specs.RoundingLaws.{closest-below, closest-above, closest-tie
 use Rattle.decimal_parser.proofs.nearest_quotient.Statement.{statement}
 use Rattle.decimal_parser.proofs.nearest_quotient.Tie as tie
 
-mul-twice-rest : tie.Need-mul-twice-rest
-mul-twice-rest c = search needs
-
-add-result : tie.Need-add-result
-add-result c = search needs
-
-add-result-2 : tie.Need-add-result-2
-add-result-2 c = search needs
-
 returns : tie.Need-returns
 returns c = closest-below (c .before .args .n) (10 ^ 7) (c .if1 .taken)
 
@@ -25,4 +16,4 @@ returns-3 c = closest-tie (c .before .before .args .n) (10 ^ 7) (c .before .if1 
 
 pub nearest-quotient-spec : {M : Type 1} → statement M
 nearest-quotient-spec =
-    tie.close (tie.spec mul-twice-rest add-result add-result-2 returns returns-2 returns-3)
+    tie.close (tie.spec (λ c. search needs) (λ c. search needs) (λ c. search needs) returns returns-2 returns-3)

@@ -17,9 +17,6 @@ sub-j c = let z = lead (c .args .q) (c .pre .0) (c .pre .1) in omega (arith, z .
 shl-n : tie.Need-shl-n
 shl-n c = let z = lead (c .args .q) (c .pre .0) (c .pre .1) in omega (arith, z .hi)
 
-mul-t8 : tie.Need-mul-t8
-mul-t8 c = search needs
-
 add-t9 : tie.Need-add-t9
 add-t9 c = let s = c .before in let z = lead (s .args .q) (s .pre .0) (s .pre .1) in omega (arith, z .hi)
 
@@ -37,4 +34,4 @@ returns-2 c =
     (shifted (s .args .q) (s .pre .0) (s .pre .1), omega (arith, c .if1 .left), omega (arith, z .low, z .high), omega (arith, z .hi))
 
 pub scale-spec : {M : Type 1} → statement M
-scale-spec = tie.close (tie.spec cast-zeros sub-j shl-n mul-t8 add-t9 returns returns-2)
+scale-spec = tie.close (tie.spec cast-zeros sub-j shl-n (λ c. search needs) add-t9 returns returns-2)

@@ -8,20 +8,8 @@ use borrow.Author.Needs.{needs}
 use Rattle.encoding_record.proofs.put_curve.Statement.{statement}
 use Rattle.encoding_record.proofs.put_curve.Tie as tie
 
-number-requires : tie.Need-number-requires
-number-requires c κs = search needs
-
 put-number-requires : tie.Need-put-number-requires
 put-number-requires c κs = (search needs, rw (c .number .ensures) (curve-byte (c .before .before .before .args .curve)))
-
-enum-known-curve : tie.Need-enum-known-curve
-enum-known-curve c = search needs
-
-put-float-requires : tie.Need-put-float-requires
-put-float-requires c κs = search needs
-
-same-length : tie.Need-same-length
-same-length c = search needs
 
 returns : tie.Need-returns
 returns c =
@@ -31,12 +19,6 @@ returns c =
     let number = put .before in
     let s = number .before .before .before in
     part _ (curveFloat (s .args .curve)) (number .number .ensures) (ap curveFloat (known .curve .given .1)) (joined (omega (arith, s .pre)) (put .put-number .ensures) (floats .put-float .ensures))
-
-put-zeros-requires : tie.Need-put-zeros-requires
-put-zeros-requires c κs = search needs
-
-same-length-2 : tie.Need-same-length-2
-same-length-2 c = search needs
 
 returns-2 : tie.Need-returns-2
 returns-2 c =
@@ -51,12 +33,12 @@ pub put-curve-spec : {M : Type 1} → statement M
 put-curve-spec =
     tie.close
     (tie.spec
-    number-requires
+    (λ c κs. search needs)
     put-number-requires
-    enum-known-curve
-    put-float-requires
-    same-length
+    (λ c. search needs)
+    (λ c κs. search needs)
+    (λ c. search needs)
     returns
-    put-zeros-requires
-    same-length-2
+    (λ c κs. search needs)
+    (λ c. search needs)
     returns-2)

@@ -5,15 +5,6 @@ use borrow.Author.Needs.{needs}
 use Rattle.encoding_record.proofs.put_end.Statement.{statement}
 use Rattle.encoding_record.proofs.put_end.Tie as tie
 
-put-curve-requires : tie.Need-put-curve-requires
-put-curve-requires c κs = search needs
-
-put-intent-requires : tie.Need-put-intent-requires
-put-intent-requires c κs = search needs
-
-same-length : tie.Need-same-length
-same-length c = search needs
-
 returns : tie.Need-returns
 returns c =
     let intent = c .before .before in
@@ -21,4 +12,4 @@ returns c =
     joined (omega (arith, curve .before .before .before .pre)) (curve .put-curve .ensures) (intent .put-intent .ensures)
 
 pub put-end-spec : {M : Type 1} → statement M
-put-end-spec = tie.close (tie.spec put-curve-requires put-intent-requires same-length returns)
+put-end-spec = tie.close (tie.spec (λ c κs. search needs) (λ c κs. search needs) (λ c. search needs) returns)

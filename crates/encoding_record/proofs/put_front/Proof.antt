@@ -5,15 +5,6 @@ use borrow.Author.Needs.{needs}
 use Rattle.encoding_record.proofs.put_front.Statement.{statement}
 use Rattle.encoding_record.proofs.put_front.Tie as tie
 
-put-byte-requires : tie.Need-put-byte-requires
-put-byte-requires c κs = search needs
-
-put-white-requires : tie.Need-put-white-requires
-put-white-requires c κs = search needs
-
-same-length : tie.Need-same-length
-same-length c = search needs
-
 returns : tie.Need-returns
 returns c =
     let white = c .before .before in
@@ -21,4 +12,4 @@ returns c =
     joined (omega (arith, section .before .before .before .pre)) (section .put-byte .ensures) (white .put-white .ensures)
 
 pub put-front-spec : {M : Type 1} → statement M
-put-front-spec = tie.close (tie.spec put-byte-requires put-white-requires same-length returns)
+put-front-spec = tie.close (tie.spec (λ c κs. search needs) (λ c κs. search needs) (λ c. search needs) returns)

@@ -4,14 +4,8 @@ use borrow.Author.Needs.{needs}
 use Rattle.encoding_record.proofs.put_intent.Statement.{statement}
 use Rattle.encoding_record.proofs.put_intent.Tie as tie
 
-number-requires : tie.Need-number-requires
-number-requires c κs = search needs
-
 put-number-requires : tie.Need-put-number-requires
 put-number-requires c κs = (search needs, rw (c .number .ensures) (intent-byte (c .before .before .before .args .intent)))
-
-same-length : tie.Need-same-length
-same-length c = search needs
 
 returns : tie.Need-returns
 returns c =
@@ -19,4 +13,4 @@ returns c =
     rw (put .before .number .ensures) at (put .put-number .ensures)
 
 pub put-intent-spec : {M : Type 1} → statement M
-put-intent-spec = tie.close (tie.spec number-requires put-number-requires same-length returns)
+put-intent-spec = tie.close (tie.spec (λ c κs. search needs) put-number-requires (λ c. search needs) returns)

@@ -11,26 +11,8 @@ use borrow.Author.Needs.{needs}
 use Rattle.encoding_record.proofs.put_primaries.Statement.{statement}
 use Rattle.encoding_record.proofs.put_primaries.Tie as tie
 
-number-requires : tie.Need-number-requires
-number-requires c κs = search needs
-
 put-number-requires : tie.Need-put-number-requires
 put-number-requires c κs = (search needs, rw (c .number .ensures) (primaries-byte (c .before .before .before .args .primaries)))
-
-enum-known-primaries : tie.Need-enum-known-primaries
-enum-known-primaries c = search needs
-
-put-xy-requires : tie.Need-put-xy-requires
-put-xy-requires c κs = search needs
-
-put-xy-requires-2 : tie.Need-put-xy-requires-2
-put-xy-requires-2 c κs = search needs
-
-put-xy-requires-3 : tie.Need-put-xy-requires-3
-put-xy-requires-3 c κs = search needs
-
-same-length : tie.Need-same-length
-same-length c = search needs
 
 returns : tie.Need-returns
 returns c =
@@ -45,12 +27,6 @@ returns c =
     part _ (primariesFloats (s .args .primaries)) (number .number .ensures) (ap primariesFloats (known .primaries .given .1) ∙ simp append-assoc)
     (joined room (joined room (joined room (put .put-number .ensures) (red .put-xy .ensures)) (green .put-xy2 .ensures)) (blue .put-xy3 .ensures))
 
-put-zeros-requires : tie.Need-put-zeros-requires
-put-zeros-requires c κs = search needs
-
-same-length-2 : tie.Need-same-length-2
-same-length-2 c = search needs
-
 returns-2 : tie.Need-returns-2
 returns-2 c =
     let floats = c .before .before in
@@ -64,14 +40,14 @@ pub put-primaries-spec : {M : Type 1} → statement M
 put-primaries-spec =
     tie.close
     (tie.spec
-    number-requires
+    (λ c κs. search needs)
     put-number-requires
-    enum-known-primaries
-    put-xy-requires
-    put-xy-requires-2
-    put-xy-requires-3
-    same-length
+    (λ c. search needs)
+    (λ c κs. search needs)
+    (λ c κs. search needs)
+    (λ c κs. search needs)
+    (λ c. search needs)
     returns
-    put-zeros-requires
-    same-length-2
+    (λ c κs. search needs)
+    (λ c. search needs)
     returns-2)

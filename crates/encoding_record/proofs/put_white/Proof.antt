@@ -8,20 +8,8 @@ use borrow.Author.Needs.{needs}
 use Rattle.encoding_record.proofs.put_white.Statement.{statement}
 use Rattle.encoding_record.proofs.put_white.Tie as tie
 
-number-requires : tie.Need-number-requires
-number-requires c κs = search needs
-
 put-number-requires : tie.Need-put-number-requires
 put-number-requires c κs = (search needs, rw (c .number .ensures) (white-byte (c .before .before .before .args .white)))
-
-enum-known-white : tie.Need-enum-known-white
-enum-known-white c = search needs
-
-put-xy-requires : tie.Need-put-xy-requires
-put-xy-requires c κs = search needs
-
-same-length : tie.Need-same-length
-same-length c = search needs
 
 returns : tie.Need-returns
 returns c =
@@ -31,12 +19,6 @@ returns c =
     let number = put .before in
     let s = number .before .before .before in
     part _ (whiteFloats (s .args .white)) (number .number .ensures) (ap whiteFloats (known .white .given .1)) (joined (omega (arith, s .pre)) (put .put-number .ensures) (floats .put-xy .ensures))
-
-put-zeros-requires : tie.Need-put-zeros-requires
-put-zeros-requires c κs = search needs
-
-same-length-2 : tie.Need-same-length-2
-same-length-2 c = search needs
 
 returns-2 : tie.Need-returns-2
 returns-2 c =
@@ -51,12 +33,12 @@ pub put-white-spec : {M : Type 1} → statement M
 put-white-spec =
     tie.close
     (tie.spec
-    number-requires
+    (λ c κs. search needs)
     put-number-requires
-    enum-known-white
-    put-xy-requires
-    same-length
+    (λ c. search needs)
+    (λ c κs. search needs)
+    (λ c. search needs)
     returns
-    put-zeros-requires
-    same-length-2
+    (λ c κs. search needs)
+    (λ c. search needs)
     returns-2)
