@@ -1,8 +1,8 @@
 -- The scanner of a float finds exactly the texts of floats. Assumes nothing.
 use Prim.Native.Nat.{ℕ, zero, suc, _+_, _-_, _*_, _/_, _%_, _^_, _≤_, _<_}
 use native.Mathlib.Omega.{arith}
-use mathlib.Core.Path.{_≡_, refl, sym, ap, ap₂, _∙_, subst}
-use mathlib.Core.Logic.{_⊎_, inl, inr, ⊎-elim}
+use mathlib.Core.Path.{_≡_, refl, sym, ap, ap₂, _∙_}
+use mathlib.Core.Logic.{_⊎_, ⊎-elim}
 use mathlib.Core.Bool.{Bool, true, false, cond, _&&_}
 use mathlib.Core.List.{List, [], _∷_, _++_, append-assoc}
 use borrow.Author.Tests.{ltb-true, ltb-false, leb-true, le-leb, lt-ltb, eq-eqb, ne-eqb}
@@ -15,7 +15,7 @@ use Rattle.digits.specs.Digits.{digit, digits, lastDigits}
 use Rattle.digits.specs.DigitsLaws.{digits-small, digits-append}
 use Rattle.decimal.specs.Seven.{minus, withPoint}
 use Rattle.decimal_parser.specs.FloatText.{FloatText}
-use Rattle.scanner.specs.Scan.{Found, nothing, found, andThen, orElse, startsWith, after}
+use Rattle.scanner.specs.Scan.{Found, nothing, found, andThen, orElse, startsWith}
 use Rattle.scanner.specs.ScanLaws.{nothing≢found, same-value, same-rest, kept, kept-not, Steps, steps, either, Past, past, Front, Finds, Holds, Exact, glue, starts-split}
 use Rattle.decimal_parser.specs.ParseFloat.{isDigit, oneDigit, moreDigits, point, wholePart, unsigned, withSign, float}
 

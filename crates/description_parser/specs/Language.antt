@@ -3,7 +3,7 @@
 use Prim.Native.Nat.{ℕ, zero, suc}
 use mathlib.Core.Path.{_≡_}
 use mathlib.Core.Bool.{Bool, true, false}
-use mathlib.Core.List.{List, [], _++_}
+use mathlib.Core.List.{List, []}
 use lib.Ieee.{Float, nan, inf, fin}
 use Rattle.buffer.specs.Ascii.{ascii}
 use Rattle.color_encoding.specs.declared.RenderingIntent.{RenderingIntent}

@@ -5,7 +5,7 @@ use mathlib.Core.List.{List, [], _∷_, _++_, append-assoc}
 use native.Mathlib.Nat.{add-zero}
 use lib.Ieee.{Float, binary32, toBits, ofBits}
 use lib.Ieee.Bits.{ofBits-toBits, toBits-lt}
-use lib.ListN.{length, drop, getD, length-append}
+use lib.ListN.{length, drop, length-append}
 use lib.Seq.{drop-at, drop-drop, getD-drop}
 use Rattle.buffer.specs.Checked.{is}
 use Rattle.words.specs.Words.{be32, word32}
@@ -20,7 +20,7 @@ use Rattle.color_encoding.specs.declared.JxlTransferFunction.{JxlTransferFuncti
 use Rattle.color_encoding.specs.declared.JxlTransferFunction.the-variants as F
 use Rattle.color_encoding.specs.Intent.{intentNumber}
 use Rattle.text.specs.Held.{Held, HeldWhite, HeldPrimaries, HeldTransfer}
-use Rattle.job_entry.specs.Entry.{byteAt, floatAt, whiteAt, primariesAt, curveAt, intentAt}
+use Rattle.job_entry.specs.Entry.{whiteAt, primariesAt, curveAt, intentAt}
 use Rattle.encoding_record.specs.EncodingRecord.{floatBytes, whiteBytes, primariesBytes, curveBytes}
 
 -- ---- how many bytes a part has

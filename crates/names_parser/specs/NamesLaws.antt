@@ -1,12 +1,12 @@
 -- The number of a name tells the value that has it. Assumes nothing.
-use Prim.Native.Nat.{ℕ, zero, suc, _+_, _≤_, _<_}
+use Prim.Native.Nat.{ℕ, suc, _+_, _≤_, _<_}
 use native.Mathlib.Omega.{arith}
 use mathlib.Core.Path.{_≡_, refl, sym, ap, _∙_, subst}
 use mathlib.Core.Bool.{Bool, true, false, cond}
 use mathlib.Core.List.{List, [], _∷_, map}
 use lib.ListN.{length, drop}
 use lib.Seq.{drop-drop}
-use Rattle.scanner.specs.Scan.{Found, nothing, found, orElse, startsWith, after, anyOf}
+use Rattle.scanner.specs.Scan.{Found, nothing, found, orElse, startsWith, anyOf}
 use Rattle.scanner.specs.Places.{nameNumber}
 use Rattle.scanner.specs.PlacesLaws.{letters-within}
 use Rattle.decimal_parser.specs.ParseFloat.{float}

@@ -6,8 +6,7 @@ use mathlib.Core.List.{List}
 use lib.ListN.{drop}
 use lib.Ieee.{Float, binary32, round}
 use borrow.Author.Needs.{needs}
-use Rattle.buffer.specs.Ascii.{ascii}
-use Rattle.scanner.specs.Scan.{Found, found, andThen, startsWith}
+use Rattle.scanner.specs.Scan.{Found, found, andThen}
 use Rattle.decimal_parser.specs.ParseFloat.{unsigned, withSign, float}
 use Rattle.decimal_parser.specs.FloatPlaces.{decimalAt, unsignedFrom}
 use Rattle.decimal_parser.specs.FloatLaws.{unsigned-holds}

@@ -10,9 +10,6 @@ use Rattle.decimal_parser.specs.FloatPlaces.{frontDigit}
 use Rattle.decimal_parser.specs.FloatPlacesLaws.{digit-within, more-next, more-stops, room, next-room}
 use Rattle.decimal_parser.proofs.seven_digits.Statement.{statement}
 use Rattle.decimal_parser.proofs.seven_digits.Tie as tie
-use Rattle.decimal_parser.proofs.seven_digits.Reads as reads
-use Rattle.decimal_parser.proofs.seven_digits.Lts as lts
-use Rattle.decimal_parser.proofs.digit_at.Reads as digit-at-reads
 
 abbrev Inv-loop : tie.InvT-loop
 Inv-loop text at whole q₀ p₀ i₀ q p i = (i ≤ 7) × (q < 10 ^ (i + 2)) × (moreDigits i whole (drop at text) ≡ found q (drop p text))

@@ -1,7 +1,6 @@
 -- Each name in turn. Assumes nothing.
 use Prim.Native.Nat.{ℕ}
 use mathlib.Core.Path.{_≡_, sym, _∙_}
-use mathlib.Core.Bool.{Bool}
 use mathlib.Core.List.{List, [], _∷_}
 use borrow.Author.Needs.{needs}
 use Rattle.color_encoding.specs.declared.RenderingIntent.the-variants.{Perceptual, Relative}
@@ -10,7 +9,7 @@ use Rattle.color_encoding.specs.declared.JxlPrimaries.the-variants as P
 use Rattle.color_encoding.specs.declared.JxlTransferFunction.the-variants as F
 use Rattle.color_encoding.specs.declared.JxlColorEncoding.{JxlColorEncoding}
 use Rattle.color_encoding.specs.declared.JxlColorEncoding.the-variants.{RgbColorSpace}
-use Rattle.scanner.specs.Scan.{startsWith, anyOf}
+use Rattle.scanner.specs.Scan.{anyOf}
 use Rattle.text.specs.Description.{description}
 use Rattle.description_parser.specs.Parse.{common}
 use Rattle.description_parser.specs.StepLaws.{name-here, name-later}

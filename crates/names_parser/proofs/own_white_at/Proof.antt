@@ -1,8 +1,7 @@
 -- A pair of coordinates, or none. Assumes nothing.
 use mathlib.Core.Path.{sym, ap, _∙_}
-use lib.Ieee.{Float}
 use borrow.Author.Needs.{needs}
-use Rattle.scanner.specs.Scan.{Found, mapped}
+use Rattle.scanner.specs.Scan.{mapped}
 use Rattle.names_parser.specs.ParseNames.{ownWhite}
 use Rattle.names_parser.specs.NamePlaces.{pairAt}
 use Rattle.names_parser.proofs.own_white_at.Statement.{statement}

@@ -3,7 +3,7 @@ use mathlib.Core.Path.{_≡_, sym, ap, _∙_}
 use mathlib.Core.List.{_∷_, []}
 use lib.ListN.{drop}
 use borrow.Author.Needs.{needs}
-use Rattle.scanner.specs.Scan.{nothing, found}
+use Rattle.scanner.specs.Scan.{found}
 use Rattle.scanner.specs.Places.{behind}
 use Rattle.scanner.specs.PlacesLaws.{joined-none, joined-step}
 use Rattle.decimal_parser.specs.ParseFloat.{float}
