@@ -36,7 +36,7 @@ unlessNamed [] e l = found e l
 unlessNamed (c ∷ name) e l = nothing
 
 abbrev pub rgbOf : RgbFields → List ℕ → Found JxlColorEncoding
-rgbOf f l = unlessNamed (commonName (f .0 .0 .0) (f .0 .0 .1) (f .1) (f .0 .1)) (RgbColorSpace (f .0 .0 .0) (f .0 .0 .1) (f .1) (f .0 .1)) l
+rgbOf (((w, p), i), t) l = unlessNamed (commonName w p t i) (RgbColorSpace w p t i) l
 
 -- white, intent, curve
 abbrev pub GrayFields : Type 0
@@ -47,7 +47,7 @@ unfolding white intent transfer
 grayFields l = joined (joined (after (ascii "Gra_") white) underscore intent) underscore transfer l
 
 abbrev pub grayOf : GrayFields → JxlColorEncoding
-grayOf f = GrayscaleColorSpace (f .0 .0) (f .1) (f .0 .1)
+grayOf ((w, i), t) = GrayscaleColorSpace w t i
 
 -- ---- the whole
 

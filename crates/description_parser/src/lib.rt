@@ -19,9 +19,9 @@ use scanner::past_front;
 ghost use mathlib.Core.Path.{_≡_};
 ghost use mathlib.Core.List.{List};
 ghost use Prim.Native.Nat.{ℕ};
+ghost use lib.ListN.{length, drop};
 ghost use Rattle.scanner.specs.Scan.{found, orElse};
 ghost use Rattle.description_parser.specs.Language.{zeroTransfer, zeroGamma};
-ghost use lib.ListN.{length, drop};
 ghost use Rattle.description_parser.specs.Parse.{rgbOf, rgb, gray, xyb, common, encoding, answer, parse};
 ghost use Rattle.description_parser.specs.Parsed.{ending, endAt, encodingAt, parsed};
 

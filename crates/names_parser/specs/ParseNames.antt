@@ -26,7 +26,7 @@ unfolding float
 pair separator l = joined float separator float l
 
 abbrev pub ownWhite : Float × Float → JxlWhitePoint
-ownWhite p = W.Chromaticity (p .0) (p .1)
+ownWhite (wx, wy) = W.Chromaticity wx wy
 
 -- those that have a name
 abbrev pub whites : List JxlWhitePoint
@@ -40,7 +40,7 @@ abbrev pub ThreePairs : Type 0
 ThreePairs = ((Float × Float) × (Float × Float)) × (Float × Float)
 
 abbrev pub ownPrimaries : ThreePairs → JxlPrimaries
-ownPrimaries p = P.Chromaticities (p .0 .0 .0) (p .0 .0 .1) (p .0 .1 .0) (p .0 .1 .1) (p .1 .0) (p .1 .1)
+ownPrimaries (((rx, ry), (gx, gy)), (bx, by)) = P.Chromaticities rx ry gx gy bx by
 
 -- red, green, blue
 unfoldable pub threePairs : List ℕ → Found ThreePairs
