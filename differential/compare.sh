@@ -1,8 +1,9 @@
 #!/bin/sh
 # Builds the port as static libraries and tries it against the original.
 #
-#   differential/compare.sh leaves|validate|writer|jobs|reader COUNT [SEED]
+#   differential/compare.sh leaves|validate|writer|jobs|reader|typed COUNT [SEED]
 #   differential/compare.sh profiles FOLDER
+#   differential/compare.sh floats
 #   differential/compare.sh bench
 #
 # SRC and OUT in the environment are the folders of build.sh, which this runs first. What the
@@ -22,7 +23,7 @@ is_number() {
     esac
 }
 case ${1-} in
-leaves | validate | writer | jobs | reader)
+leaves | validate | writer | jobs | reader | typed)
     [ $# -eq 2 ] || [ $# -eq 3 ] || usage "$1 takes COUNT and perhaps SEED"
     is_number "$2" && [ "$2" -gt 0 ] || usage "COUNT is a number above 0, not '$2'"
     is_number "${3-1}" || usage "SEED is a number, not '$3'"
@@ -33,7 +34,7 @@ profiles)
     folder=$(cd "$2" && pwd)
     set -- profiles "$folder"
     ;;
-bench) [ $# -eq 1 ] || usage "bench takes no other word" ;;
+floats | bench) [ $# -eq 1 ] || usage "$1 takes no other word" ;;
 *) usage "no word '${1-}'" ;;
 esac
 

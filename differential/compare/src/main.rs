@@ -1,13 +1,15 @@
 //! Tries the port against the original on many inputs.
 //!
-//! Each leaf, `validate_icc_matrix`, the writer, the calls on jobs, or the reader are tried on
-//! COUNT inputs: the boundary cases first, then random ones that follow from the seed. Prints a
-//! line for each and fails if one answer differs. `bench` times the writer beside the original.
+//! Each leaf, `validate_icc_matrix`, the writer, the calls on jobs, the reader, or the reading of
+//! typed texts are tried on COUNT inputs: the boundary cases first, then random ones that follow
+//! from the seed. Prints a line for each and fails if one answer differs. `bench` times the writer
+//! beside the original, and typed texts.
 
 mod jobs;
 mod port;
 mod progress;
 mod reader;
+mod typed;
 
 use std::fmt::Debug;
 use std::hint::black_box;
@@ -19,8 +21,9 @@ use judge::{answer, bench, leaves};
 use progress::Progress;
 
 const USAGE: &str = "\
-compare leaves|validate|writer|jobs|reader COUNT [SEED]
+compare leaves|validate|writer|jobs|reader|typed COUNT [SEED]
 compare profiles FOLDER
+compare floats
 compare bench";
 
 /// Inputs are made in parts, so that they fit into memory.
@@ -33,6 +36,14 @@ struct Run {
 }
 
 impl Run {
+    fn without_count() -> Self {
+        Self {
+            count: 0,
+            seed: 1,
+            differences: 0,
+        }
+    }
+
     fn leaf<I: Debug, A: PartialEq + Debug>(
         &mut self,
         name: &'static str,
@@ -248,10 +259,56 @@ fn bench() {
     }
 }
 
+/// Nanoseconds for reading the longest text beside Rust's own for its nine floats, and for a short
+/// one beside the writer of its encoding.
+fn bench_typed() {
+    const LONGEST: &str = "RGB_-10.1234567;-23.4567891_-34.5678912,-45.6789123;-56.7891234,-67.8912345;-78.9123456,-89.1234567_Abs_g-91.2345678";
+    const SHORT: &str = "RGB_D65_SRG_Rel_Lin";
+    let floats: Vec<&str> = LONGEST
+        .split(['_', ';', ',', 'g'])
+        .filter(|part| part.contains('.'))
+        .collect();
+    let short = judge::typed::read(SHORT.as_bytes()).expect("it is in the language");
+    let (mut record, mut output) = ([0u8; 41], [0u8; 1300]);
+    let mut read = |text: &str| {
+        black_box(port::parse_description(
+            black_box(text.as_bytes()),
+            &mut record,
+        ));
+    };
+    let mut best = [f64::INFINITY; 4];
+    for _ in 0..5 {
+        let times = [
+            bench::nanoseconds(|| read(LONGEST)),
+            bench::nanoseconds(|| {
+                for float in &floats {
+                    _ = black_box(black_box(float).parse::<f32>());
+                }
+            }),
+            bench::nanoseconds(|| read(SHORT)),
+            bench::nanoseconds(|| {
+                black_box(port::write(black_box(&short), &mut output));
+            }),
+        ];
+        best = std::array::from_fn(|at| times[at].min(best[at]));
+    }
+    let [long, parsed, short, written] = best;
+    let (count, letters) = (floats.len(), LONGEST.len());
+    println!(
+        "a typed text of {letters} letters: {long:.0} ns, Rust's own for its {count} floats {parsed:.0} ns, ratio {:.2}",
+        long / parsed
+    );
+    println!(
+        "{SHORT}, typed: {short:.0} ns, the writer {written:.0} ns, ratio {:.2}",
+        short / written
+    );
+}
+
 /// What the words of the command line ask for.
 enum Asked {
     Try(fn(&mut Run), Run),
     Profiles(String),
+    EveryFloat,
     Bench,
 }
 
@@ -260,12 +317,14 @@ impl Asked {
         let (what, rest) = words.split_first().ok_or("a word is missing")?;
         let tried: fn(&mut Run) = match (*what, rest) {
             ("bench", []) => return Ok(Self::Bench),
+            ("floats", []) => return Ok(Self::EveryFloat),
             ("profiles", [folder]) => return Ok(Self::Profiles(folder.to_string())),
             ("leaves", _) => leaves,
             ("validate", _) => validate,
             ("writer", _) => writer,
             ("jobs", _) => jobs::jobs,
             ("reader", _) => reader::reader,
+            ("typed", _) => typed::typed,
             _ => return Err(format!("not known: {}", words.join(" "))),
         };
         let (count, seed) = match rest {
@@ -290,16 +349,18 @@ impl Asked {
                 Ok(run.differences)
             }
             Self::Profiles(folder) => {
-                let mut run = Run {
-                    count: 0,
-                    seed: 1,
-                    differences: 0,
-                };
+                let mut run = Run::without_count();
                 reader::folder(&mut run, folder.as_ref())?;
+                Ok(run.differences)
+            }
+            Self::EveryFloat => {
+                let mut run = Run::without_count();
+                typed::every_float(&mut run);
                 Ok(run.differences)
             }
             Self::Bench => {
                 bench();
+                bench_typed();
                 Ok(0)
             }
         }

@@ -75,6 +75,12 @@ mod entries {
             signature: u32,
             offset: *mut u32,
         ) -> u32;
+        pub fn merqyduk_parse_description(
+            text: *const u8,
+            text_len: usize,
+            record: *mut u8,
+            record_len: usize,
+        ) -> u32;
         pub fn merqyduk_job(job: *const u8, job_len: usize, entries: *mut u32) -> u32;
         pub fn merqyduk_job_profile(
             job: *const u8,
@@ -429,6 +435,19 @@ pub fn length(encoding: &Encoding, capacity: usize) -> u32 {
             _ => entries::merqyduk_length_xyb(a.intent, capacity),
         }
     }
+}
+
+/// A text read into a record: 0, or a refusal. Of no bytes, a null pointer is passed.
+pub fn parse_description(text: &[u8], record: &mut [u8]) -> u32 {
+    let text_at = match text {
+        [] => std::ptr::null(),
+        _ => text.as_ptr(),
+    };
+    let record_at = match record {
+        [] => std::ptr::null_mut(),
+        _ => record.as_mut_ptr(),
+    };
+    unsafe { entries::merqyduk_parse_description(text_at, text.len(), record_at, record.len()) }
 }
 
 /// Whether the job is good: 0 and the number of entries, or a refusal and the number left as it was.

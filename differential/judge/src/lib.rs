@@ -12,3 +12,4 @@ pub mod leaves;
 pub mod list;
 pub mod profiles;
 pub mod reader;
+pub mod typed;

@@ -12,6 +12,7 @@ pub mod plans;
 pub mod profile_cases;
 pub mod random;
 pub mod records;
+pub mod texts;
 
 use std::collections::HashSet;
 use std::hash::Hash;
