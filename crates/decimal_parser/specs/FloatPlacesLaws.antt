@@ -9,12 +9,12 @@ use mathlib.Core.Bool.{Bool, true, false, cond, _&&_}
 use mathlib.Core.List.{List, [], _∷_}
 use borrow.Author.Tests.{ltb-true, lt-ltb, le-ltb, le-leb, lt-leb, eq-eqb, ne-eqb}
 use lib.Dec.{leb, ltb, eqb, lit≤}
-use lib.ListN.{length, drop, getD}
+use lib.ListN.{length, drop, getD, drop-of-length-le}
 use lib.Seq.{drop-cons}
 use Rattle.buffer.specs.Ascii.{ascii}
 use Rattle.buffer.specs.BoolLaws.{both-right}
 use Rattle.scanner.specs.Scan.{Found, nothing, found, andThen, orElse, startsWith}
-use Rattle.scanner.specs.PlacesLaws.{drop-all, drop-next}
+use Rattle.scanner.specs.PlacesLaws.{drop-next}
 use Rattle.decimal_parser.specs.ParseFloat.{isDigit, oneDigit, moreDigits, point, wholePart, withSign, float}
 use Rattle.decimal_parser.specs.FloatPlaces.{frontDigit, unsignedFrom}
 
@@ -104,7 +104,7 @@ next-room i q d h g = le-trans (step q d (10 ^ (i + 2)) h g) (le-of-eq (sym (ap 
 -- ---- reading a byte
 
 pub digit-past : (text : List ℕ) (at : ℕ) → length text ≤ at → 10 ≡ frontDigit (drop at text)
-digit-past text at h = ap frontDigit (sym (drop-all at text h))
+digit-past text at h = ap frontDigit (sym (drop-of-length-le text h))
 
 pub digit-here : (text : List ℕ) (at : ℕ) → at < length text → frontDigit (drop at text) ≡ cond (isDigit (getD text at 0)) (getD text at 0 - 48) 10
 digit-here text at h = ap frontDigit (drop-cons text at 0 h)

@@ -1,13 +1,13 @@
 -- What stands at a place of a text. Assumes nothing.
-use Prim.Native.Nat.{ℕ, zero, suc, _+_, _-_, _≤_, _<_}
-use native.Mathlib.Nat.{le-of-suc-le-suc, add-zero}
+use Prim.Native.Nat.{ℕ, suc, _+_, _-_, _≤_, _<_}
+use native.Mathlib.Nat.{add-zero}
 use native.Mathlib.Omega.{arith}
 use mathlib.Core.Path.{_≡_, refl, sym, ap, _∙_, subst}
 use mathlib.Core.Bool.{Bool, true, false, cond, _&&_}
 use mathlib.Core.List.{List, [], _∷_}
 use borrow.Author.Tests.{ne-eqb}
 use lib.Dec.{eqb}
-use lib.ListN.{length, take, drop, getD, length-drop}
+use lib.ListN.{length, take, drop, getD, length-drop, drop-of-length-le}
 use lib.Seq.{drop-cons, drop-drop}
 use Rattle.buffer.specs.Bytes.{same}
 use Rattle.buffer.specs.BoolLaws.{holds, both-right, never, and-true}
@@ -16,22 +16,13 @@ use Rattle.scanner.specs.Places.{behind, threes, nameNumber}
 
 -- ---- places
 
-pub drop-all : (n : ℕ) (l : List ℕ) → length l ≤ n → drop n l ≡ []
-drop-all zero [] h = refl
-drop-all zero (c ∷ l) h = absurd (no (length l) h)
-  where
-    no : (n : ℕ) → suc n ≤ 0 → ⊥
-    no n h = omega arith
-drop-all (suc n) [] h = refl
-drop-all (suc n) (c ∷ l) h = drop-all n l (le-of-suc-le-suc h)
-
 pub drop-next : (n : ℕ) (l : List ℕ) → drop 1 (drop n l) ≡ drop (n + 1) l
 drop-next n l = drop-drop 1 n l
 
 -- ---- letters at a place
 
 pub letter-past : (c : ℕ) (text : List ℕ) (at : ℕ) → length text ≤ at → false ≡ startsWith (c ∷ []) (drop at text)
-letter-past c text at h = ap (startsWith (c ∷ [])) (sym (drop-all at text h))
+letter-past c text at h = ap (startsWith (c ∷ [])) (sym (drop-of-length-le text h))
 
 pub letter-here : (c : ℕ) (text : List ℕ) (at : ℕ) → at < length text → startsWith (c ∷ []) (drop at text) ≡ eqb c (getD text at 0)
 letter-here c text at h = ap (startsWith (c ∷ [])) (drop-cons text at 0 h) ∙ and-true (eqb c (getD text at 0))
@@ -57,7 +48,7 @@ letters-within n at text p e =
 
 -- no letters stand anywhere, also past the end
 pub starts-none : (n : List ℕ) (at : ℕ) (text : List ℕ) → length text < at → eqb (length n) 0 ≡ startsWith n (drop at text)
-starts-none n at text h = go n ∙ ap (startsWith n) (sym (drop-all at text (omega arith)))
+starts-none n at text h = go n ∙ ap (startsWith n) (sym (drop-of-length-le text {i = at} (omega arith)))
   where
     go : (n : List ℕ) → eqb (length n) 0 ≡ startsWith n []
     go [] = refl

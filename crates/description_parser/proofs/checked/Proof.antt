@@ -3,11 +3,10 @@ use Prim.Native.Nat.{ℕ, _≤_, _<_}
 use mathlib.Core.Path.{_≡_, sym, ap, _∙_, subst}
 use mathlib.Core.Bool.{Bool, cond}
 use mathlib.Core.List.{List}
-use lib.ListN.{length, drop}
+use lib.ListN.{length, drop, drop-of-length-le}
 use borrow.Author.Needs.{needs}
 use Rattle.buffer.specs.Checked.{is, refused}
 use Rattle.scanner.specs.Scan.{found}
-use Rattle.scanner.specs.PlacesLaws.{drop-all}
 use Rattle.description_parser.specs.Parse.{gammaIsZero, answer}
 use Rattle.description_parser.specs.StepLaws.{more-left}
 use Rattle.description_parser.proofs.checked.Statement.{statement}
@@ -23,7 +22,7 @@ ends : (c : tie.Else1) (text : List ℕ) →
 ends c text e =
     let s = c .before .before .args in
     ap (λ (z : Bool). cond z (refused gammaIsZero) (is (s .encoding))) (c .before .zero-gamma .ensures)
-    ∙ ap (λ (r : List ℕ). answer (found (s .encoding) r)) (sym (drop-all (s .next) text (subst (λ (n : ℕ). n ≤ s .next) (sym e) (c .if1 .left))))
+    ∙ ap (λ (r : List ℕ). answer (found (s .encoding) r)) (sym (drop-of-length-le text (subst (λ (n : ℕ). n ≤ s .next) (sym e) (c .if1 .left))))
 
 returns-2 : tie.Need-returns-2
 returns-2 c text e = let s = c .before .before .before .args in ap (λ (z : Bool). cond z (refused gammaIsZero) (is (s .encoding))) (sym (c .if2 .taken)) ∙ ends (c .before) text e
