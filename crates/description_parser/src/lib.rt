@@ -20,7 +20,9 @@ ghost use mathlib.Core.Path.{_≡_};
 ghost use mathlib.Core.List.{List};
 ghost use Prim.Native.Nat.{ℕ};
 ghost use lib.ListN.{length, drop};
-ghost use Rattle.scanner.specs.Scan.{found, orElse};
+ghost use Rattle.scanner.specs.Scan.{found, orElse, after};
+ghost use Rattle.names_parser.specs.ParseNames.{white};
+ghost use Rattle.names_parser.specs.NamePlaces.{whiteAt};
 ghost use Rattle.description_parser.specs.Language.{zeroTransfer, zeroGamma};
 ghost use Rattle.description_parser.specs.Parse.{rgbOf, rgb, gray, xyb, common, encoding, answer, parse};
 ghost use Rattle.description_parser.specs.Parsed.{ending, endAt, encodingAt, parsed};
@@ -56,6 +58,13 @@ enum EndAt {
 }
 
 // ---- the long forms
+
+// The white behind the letters of a color space.
+fn white_behind(text: &[u8], letters: &[u8]) -> WhiteAt
+    ensures { λ r. ⌜ whiteAt (now (text .entry)) r ≡ after (now (letters .entry)) white (now (text .entry)) ⌝ }
+{
+    white_at(text, past_front(text, letters))
+}
 
 // The end of a long form: an underscore and the intent, an underscore and the curve.
 fn end_at(text: &[u8], at: usize) -> EndAt
@@ -116,7 +125,7 @@ fn unless_named(
 fn rgb_at(text: &[u8]) -> EncodingAt
     ensures { λ r. ⌜ encodingAt (now (text .entry)) r ≡ rgb (now (text .entry)) ⌝ }
 {
-    let WhiteAt::Found { white_point, next } = white_at(text, past_front(text, b"RGB_")) else {
+    let WhiteAt::Found { white_point, next } = white_behind(text, b"RGB_") else {
         return EncodingAt::Nothing;
     };
     let PrimariesAt::Found { primaries, next } = primaries_at(text, past(text, next, b'_')) else {
@@ -143,7 +152,7 @@ fn rgb_at(text: &[u8]) -> EncodingAt
 fn gray_at(text: &[u8]) -> EncodingAt
     ensures { λ r. ⌜ encodingAt (now (text .entry)) r ≡ gray (now (text .entry)) ⌝ }
 {
-    let WhiteAt::Found { white_point, next } = white_at(text, past_front(text, b"Gra_")) else {
+    let WhiteAt::Found { white_point, next } = white_behind(text, b"Gra_") else {
         return EncodingAt::Nothing;
     };
     let EndAt::Found {

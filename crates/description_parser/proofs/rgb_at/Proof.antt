@@ -7,11 +7,9 @@ use borrow.Author.Needs.{needs}
 use Rattle.buffer.specs.Ascii.{ascii}
 use Rattle.scanner.specs.Scan.{found, andThen, mapped, after}
 use Rattle.scanner.specs.Places.{behind}
-use Rattle.scanner.specs.PlacesLaws.{after-behind}
 use Rattle.text.specs.Description.{underscore}
 use Rattle.names_parser.specs.ParseNames.{white, primaries}
 use Rattle.names_parser.specs.NamePlaces.{whiteAt, primariesAt}
-use Rattle.names_parser.specs.NamesLaws.{white-end}
 use Rattle.description_parser.specs.declared.EndAt.{EndAt}
 use Rattle.description_parser.specs.Parse.{RgbFields, rgbOf, rgb}
 use Rattle.description_parser.specs.Parsed.{endAt}
@@ -19,26 +17,22 @@ use Rattle.description_parser.specs.StepLaws.{rgb-no-white, rgb-no-prima
 use Rattle.description_parser.proofs.rgb_at.Statement.{statement}
 use Rattle.description_parser.proofs.rgb_at.Tie as tie
 
-module _ (c : tie.After-white-at) where
-  abbrev text : List ℕ
-  text = c .before .before .before .before .args .text .now
-
-  white-is : after (ascii "RGB_") white text ≡ whiteAt text (c .white-at .result)
-  white-is = after-behind (ascii "RGB_") white text white-end ∙ sym (c .white-at .ensures ∙ ap white (c .before .past-front .ensures))
-
 module _ (k : tie.After-known-told) where
-  abbrev start : tie.After-white-at
+  abbrev start : tie.After-white-behind
   start = k .before .before .before
 
-  white-found : after (ascii "RGB_") white (text start) ≡ found (k .before .white-point .given .0 .0) (drop (k .before .white-point .given .0 .1 .0) (text start))
-  white-found = white-is start ∙ ap (whiteAt (text start)) (k .before .white-point .given .1)
+  abbrev text : List ℕ
+  text = start .before .before .before .args .text .now
+
+  white-found : after (ascii "RGB_") white text ≡ found (k .before .white-point .given .0 .0) (drop (k .before .white-point .given .0 .1 .0) text)
+  white-found = sym (start .white-behind .ensures) ∙ ap (whiteAt text) (k .before .white-point .given .1)
 
 module _ (c : tie.After-primaries-at) where
   abbrev white-told : tie.After-known-told
   white-told = c .before .before
 
   primaries-are :
-      let t = text (start white-told) in
+      let t = text white-told in
       primaries (behind underscore (drop (white-told .before .white-point .given .0 .1 .0) t)) ≡ primariesAt t (c .primaries-at .result)
   primaries-are = sym (c .primaries-at .ensures ∙ ap primaries (c .before .past .ensures))
 
@@ -50,7 +44,7 @@ module _ (c : tie.After-end-at) where
   at-primaries = told .before .before .before
 
   abbrev whole : List ℕ
-  whole = text (start (white-told at-primaries))
+  whole = text (white-told at-primaries)
 
   rgb-is : (y : EndAt) → c .end-at .result ≡ y →
       andThen (mapped {B = RgbFields} (λ q. (((white-told at-primaries .before .white-point .given .0 .0, told .before .primaries .given .0 .0), q .0), q .1)) (endAt whole y)) rgbOf ≡ rgb whole
@@ -59,12 +53,15 @@ module _ (c : tie.After-end-at) where
       (sym (c .end-at .ensures) ∙ ap (endAt whole) e))
 
 returns : tie.Need-returns
-returns c = let d = c .before .before in sym (rgb-no-white (text d) (white-is d ∙ ap (whiteAt (text d)) (c .enum-told .given .1)))
+returns c =
+    let d = c .before .before in
+    let t = d .before .before .before .args .text .now in
+    sym (rgb-no-white t (sym (d .white-behind .ensures) ∙ ap (whiteAt t) (c .enum-told .given .1)))
 
 returns-2 : tie.Need-returns-2
 returns-2 c =
     let d = c .before .before in
-    let t = text (start (white-told d)) in
+    let t = text (white-told d) in
     sym (rgb-no-primaries t (white-found (white-told d)) (primaries-are d ∙ ap (primariesAt t) (c .enum-told2 .given .1)))
 
 returns-3 : tie.Need-returns-3
@@ -82,7 +79,6 @@ rgb-at-spec =
     tie.close
     (tie.spec
     (λ c. search needs)
-    (λ c κs. search needs)
     (λ c κs. search needs)
     (λ c. search needs)
     (λ c. search needs)
