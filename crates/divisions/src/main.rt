@@ -138,10 +138,10 @@ fn word_end(s: &[u8], at: usize) -> usize {
     }
 }
 
-// The place after a character, or after the ' of a lifetime.
+// The place after a character, or after the ' of a lifetime. An escape of another form than \n and \x41 is refused.
 fn quote_end(s: &[u8], at: usize) -> usize {
-    let quoted = wrapping_add_usize(at, 1);
-    let last = if byte_at(s, quoted) != b'\\' {
+    let escaped = byte_at(s, wrapping_add_usize(at, 1)) == b'\\';
+    let last = if !escaped {
         wrapping_add_usize(at, 2)
     } else if byte_at(s, wrapping_add_usize(at, 2)) == b'x' {
         wrapping_add_usize(at, 5)
@@ -150,8 +150,10 @@ fn quote_end(s: &[u8], at: usize) -> usize {
     };
     if byte_at(s, last) == b'\'' {
         wrapping_add_usize(last, 1)
+    } else if escaped {
+        at
     } else {
-        quoted
+        wrapping_add_usize(at, 1)
     }
 }
 
