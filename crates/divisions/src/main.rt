@@ -48,7 +48,7 @@ fn is_letter(b: u8) -> bool {
     }
 }
 
-// What goes on over several bytes. A statement is one of a single line.
+// What takes several bytes; `stops` says where it ends. A statement is one of a single line, a segment a part of a path.
 enum Run {
     Line,
     Statement,
@@ -58,7 +58,7 @@ enum Run {
     Contract,
 }
 
-// Whether a string or a contract stops here: at its end, or where it could go on in more than one way.
+// Whether a string stops here: at its end, or where it could go on in more than one way.
 fn text_stops(s: &[u8], at: usize) -> bool {
     match byte_at(s, at) {
         b'"' => byte_at(s, wrapping_sub_usize(at, 1)) != b'\\',
@@ -68,7 +68,7 @@ fn text_stops(s: &[u8], at: usize) -> bool {
     }
 }
 
-// A clause ends at its brace, so that a contract that holds one is refused.
+// The same for a contract. One that holds a brace is refused, since its clause ends at one.
 fn contract_stops(s: &[u8], at: usize) -> bool {
     match byte_at(s, at) {
         b'{' | b'}' | b'"' => true,
@@ -221,7 +221,7 @@ fn is_name(s: &[u8], t: Token) -> bool {
 
 // ---- the right operand of a division
 
-// The base of a literal whose second letter is this.
+// The base of a literal whose second letter is this. The `ensures` gives only what `value` needs to stay below 2^64.
 fn base(letter: u8) -> u64
     ensures { λ r. ⌜ r ≤ 16 ⌝ }
 {
@@ -395,7 +395,7 @@ fn unread(s: &[u8], t: Token) -> Found {
     fault_if(true, run_end(Run::Line, s, t.start))
 }
 
-// The token behind the name, or the λ with its name and point, that may stand here.
+// The token behind a name; where none stands, the token itself.
 fn past_name(s: &[u8], t: Token) -> Token {
     if is_name(s, t) {
         token_from(s, t.end)
@@ -404,6 +404,7 @@ fn past_name(s: &[u8], t: Token) -> Token {
     }
 }
 
+// The token behind λ, a name and a point; where they do not stand, the token itself.
 fn past_lambda(s: &[u8], t: Token) -> Token {
     let point = past_name(s, token_from(s, t.end));
     if is(s, t, &LAMBDA) && is(s, point, b".") {
@@ -545,7 +546,7 @@ fn search(name: &[u8], s: &[u8]) {
         if found.faults != 0 {
             print_fault(name, s, t.start);
         }
-        // So that the search ends; no counts are printed then.
+        // Never so, but the prover must see that the search ends; the missing counts would tell.
         if found.next <= at {
             return;
         }
