@@ -9,7 +9,8 @@
  * it answers a number below 100, and all of the output is unchanged: one of MERQYDUK_REFUSED_..., or 0 where
  * the job has no such entry. Refusals are tested in this order: 41, 42, 43; then 0; then 1 to 9. An output of
  * MERQYDUK_MAX_PROFILE bytes is enough for every profile. A call that tells a profile's length, merqyduk_length_...,
- * answers the same number without an output. The calls that read a file or a text say below what they answer.
+ * answers the same number without an output. The calls that read a file or a text, and those on segments, say below what
+ * they answer.
  *
  * Id. A profile's id is its bytes 84 to 99, MERQYDUK_ID_SIZE bytes from MERQYDUK_ID_OFFSET on: MD5 of the
  * profile with bytes 44 to 47, 64 to 67 and 84 to 99 zero.
@@ -42,13 +43,23 @@
 #include <string.h>
 
 #define MERQYDUK_VERSION_MAJOR 0
-#define MERQYDUK_VERSION_MINOR 11
+#define MERQYDUK_VERSION_MINOR 12
 #define MERQYDUK_VERSION_PATCH 0
-#define MERQYDUK_VERSION_STRING "0.11.0"
+#define MERQYDUK_VERSION_STRING "0.12.0"
 
 /* The lengths of the profiles that are written, in bytes. */
 #define MERQYDUK_MIN_PROFILE 284
 #define MERQYDUK_MAX_PROFILE 1200
+
+/* The most bytes of a file that is read. */
+#define MERQYDUK_MAX_FILE 1240
+
+/* Of APP2 segments: the bytes in front of the data of each, the most data of one, the most segments of a file, and an output
+ * that is enough for the segments of every file. */
+#define MERQYDUK_SEGMENT_FRONT 18
+#define MERQYDUK_MAX_SEGMENT_DATA 65519
+#define MERQYDUK_MAX_SEGMENTS 255
+#define MERQYDUK_MAX_SEGMENTS_LENGTH (MERQYDUK_MAX_FILE + MERQYDUK_MAX_SEGMENTS * MERQYDUK_SEGMENT_FRONT)
 
 /* Where a profile's id stands, and its bytes. */
 #define MERQYDUK_ID_OFFSET 84
@@ -133,7 +144,11 @@ enum {
     MERQYDUK_REFUSED_MEANING = 43,
     /* of reading a text */
     MERQYDUK_REFUSED_TEXT = 51,
-    MERQYDUK_REFUSED_ZERO_GAMMA = 52
+    MERQYDUK_REFUSED_ZERO_GAMMA = 52,
+    /* of APP2 segments */
+    MERQYDUK_REFUSED_SEGMENT_SIZE = 53,
+    MERQYDUK_REFUSED_SEGMENTS = 54,
+    MERQYDUK_REFUSED_SEGMENT_OUTPUT = 55
 };
 
 /* What a refusal means, as a constant ASCII text; any number has one. */
@@ -183,6 +198,12 @@ static inline const char *merqyduk_refusal_text(uint32_t refusal) {
         return "the text is no description of an encoding";
     case MERQYDUK_REFUSED_ZERO_GAMMA:
         return "a gamma in the text is zero";
+    case MERQYDUK_REFUSED_SEGMENT_SIZE:
+        return "the size of the segments' data is not 1 to 65519, or needs more than 255 segments";
+    case MERQYDUK_REFUSED_SEGMENTS:
+        return "the bytes are no complete APP2 segments of a profile";
+    case MERQYDUK_REFUSED_SEGMENT_OUTPUT:
+        return "the output is shorter than the segments, or than their data";
     case 0:
         return "no refusal, or no such entry in the job";
     default:
@@ -358,6 +379,26 @@ uint32_t merqyduk_read(const uint8_t *file, size_t file_len, void *plan, size_t 
  * tag's name as one number, the first byte the most significant: 0x64657363 is desc. Or it answers 0, where merqyduk_read
  * refuses the file or the file has no such tag, and *offset is unchanged. */
 uint32_t merqyduk_find(const uint8_t *file, size_t file_len, uint32_t signature, uint32_t *offset);
+
+/* ---- a profile in APP2 segments of a JPEG file
+ *
+ * A segment is FF E2, a length of two bytes that counts itself and all that follows it, the letters ICC_PROFILE and a zero
+ * byte, a sequence number from 1, the count of segments, and data. In a JPEG file segments stand after its first two bytes,
+ * FF D8, and other segments may stand before and between them; here they follow one another with nothing between. */
+
+/* Puts a file into segments of `size` bytes of data; the last alone may have fewer. Answers their length, which is
+ * file_len + MERQYDUK_SEGMENT_FRONT bytes for each, and they stand at the front of the output, in order; the rest of the
+ * output is unchanged. Or it answers, tested in this order, what merqyduk_read refuses the file by, 21 to 28; 53 where size
+ * is not 1 to MERQYDUK_MAX_SEGMENT_DATA or the file needs more than MERQYDUK_MAX_SEGMENTS segments; 55 where the output is
+ * too short; and all of the output is unchanged. With a size of MERQYDUK_MAX_SEGMENT_DATA there is one segment. */
+uint32_t merqyduk_write_segments(const uint8_t *file, size_t file_len, size_t size, uint8_t *out, size_t out_len);
+
+/* Joins segments, in any order and of any size of data, none included, to the file that they hold. Answers the file's length,
+ * and it stands at the front of the output; the rest of the output is unchanged. Or it answers, tested in this order, 54
+ * where there is no segment or the bytes are not complete segments and nothing else; 55 where the output is shorter than
+ * their data; 21 to 28 where merqyduk_read refuses the data; and all of the output is unchanged. An output of
+ * MERQYDUK_MAX_FILE bytes is enough for every file. */
+uint32_t merqyduk_join_segments(const uint8_t *segments, size_t segments_len, uint8_t *out, size_t out_len);
 
 #ifdef __cplusplus
 }

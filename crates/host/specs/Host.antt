@@ -20,6 +20,7 @@ use Rattle.job_output.specs.declared.JobProfile.the-variants as J
 use Rattle.reading.specs.declared.Reading.{Reading}
 use Rattle.plan_record.specs.PlanRecord.{recordSize, planRecord}
 use Rattle.encoding_record.specs.EncodingRecord.{encodingSize, encodingRecord}
+use Rattle.app2.specs.App2 as App2
 
 -- ---- the profile of an encoding that comes by codes
 
@@ -90,3 +91,11 @@ pub record StoresEncoding (c : Checked JxlColorEncoding) (before after : List �
 pub record FindsElement (e : Entry) (before after r : ℕ) : Type 0 where
   pub answer : r ≡ e .size
   pub offset : after ≡ cond (eqb (e .size) 0) before (e .offset)
+
+-- ---- APP2 segments
+
+-- the promise of a call on segments that gives c, with its answer as one number, which tells that answer
+pub record GivesNumber (c : Checked (List ℕ)) (before after : List ℕ) (r : ℕ) : Type 0 where
+  pub answer : r ≡ App2.number (App2.answer c)
+  pub output : after ≡ App2.output c before
+  pub told : App2.outputBy r ≡ App2.answer c

@@ -1,4 +1,5 @@
--- What the writer promises, as a C call promises it; and what the calls on files promise, by each of their answers. Assumes nothing.
+-- What the writer and the calls on segments promise, as a C call promises it; and what the calls on files promise, by each of their answers.
+-- Assumes nothing.
 use Prim.Native.Nat.{ℕ, _≤_, _<_}
 use mathlib.Core.Path.{_≡_, sym, ap, _∙_}
 use mathlib.Core.List.{List}
@@ -14,7 +15,9 @@ use Rattle.writer_laws.specs.RefusalNumbers.{answer-told}
 use Rattle.reading.specs.declared.Reading.{Reading}
 use Rattle.plan_record.specs.PlanRecord.{recordSize, planRecord}
 use Rattle.encoding_record.specs.EncodingRecord.{encodingSize, encodingRecord}
-use Rattle.host.specs.Host.{WritesCode, MeasuresCode, ReadsPlan, StoresEncoding, FindsElement}
+use Rattle.app2.specs.App2 as App2
+use Rattle.app2.specs.declared.Output.{Output}
+use Rattle.host.specs.Host.{WritesCode, MeasuresCode, ReadsPlan, StoresEncoding, FindsElement, GivesNumber}
 
 -- the answer q, as the one number that it is, without an output
 pub code-measured : {e : JxlColorEncoding} {n : ℕ} {p q : Profile} → MeasuresProfile e n p → p ≡ q → MeasuresCode (is e) n (number q)
@@ -67,3 +70,12 @@ module _ {e : Entry} {n : ℕ} (size : n ≡ e .size) where
 
   pub element-absent : {before : ℕ} → n ≡ 0 → FindsElement e before before n
   element-absent h = record { answer = size; offset = rw (eq-eqb (e .size) 0 (sym size ∙ h)) }
+
+-- ---- APP2 segments
+
+-- the answer q, as the one number that it is
+pub number-given : {c : Checked (List ℕ)} {before after : List ℕ} {p q : Output} → App2.Gives c before after p → p ≡ q
+    → App2.outputBy (App2.number (App2.answer c)) ≡ App2.answer c → GivesNumber c before after (App2.number q)
+number-given g same told =
+    let known = ap App2.number (sym same ∙ g .answer) in
+    record { answer = known; output = g .output; told = ap App2.outputBy known ∙ told }

@@ -1,11 +1,13 @@
-// The writer, the job, the reader, the finder and the parser of descriptions for C and C++: include/merqyduk.h declares these entries. An encoding
-// comes as numbers, a job, a file and a text as bytes, and the output is lent. A call that writes answers the profile's length (284 or more) or a number below 100, and then the output
-// is unchanged; one that reads answers 0 or a number, and then the lent record is unchanged.
+// The writer, the job, the reader, the finder, the parser of descriptions and the two calls on APP2 segments for C and C++: include/merqyduk.h declares
+// these entries. An encoding comes as numbers, a job, a file, a text and segments as bytes, and the output is lent. A call that writes answers the length of
+// what it wrote (284 or more) or a number below 100, and then the output is unchanged; one that reads answers 0 or a number, and then the lent record is unchanged.
+use app2::Output;
 use color_encoding::EncodingCode;
 use description_parser::Parsed;
 use job::JobAnswer;
 use job_output::JobProfile;
 use writer::Profile;
+ghost use lib.ListN.{length};
 ghost use Rattle.color_encoding.specs.Codes.{whitePointFrom, primariesFrom, transferFunctionFrom, intentFrom};
 ghost use Rattle.color_encoding.specs.Codes.{knownEncoding, grayFrom, rgbFrom, xybFrom};
 ghost use Rattle.description_parser.specs.Parse.{parse};
@@ -16,7 +18,8 @@ ghost use Rattle.words.specs.Words.{be32};
 ghost use Rattle.reader_spec.specs.Read as Read;
 ghost use Rattle.reader_spec.specs.Finder as Finder;
 ghost use Rattle.reading.specs.Reading.{reading};
-ghost use Rattle.host.specs.Host.{WritesCode, MeasuresCode, CountsEntries, profileNumber, ReadsPlan, StoresEncoding, FindsElement};
+ghost use Rattle.app2.specs.App2.{writtenSegments, joinedFile};
+ghost use Rattle.host.specs.Host.{WritesCode, MeasuresCode, CountsEntries, profileNumber, ReadsPlan, StoresEncoding, FindsElement, GivesNumber};
 
 // ---- the profile of an encoding
 
@@ -248,4 +251,26 @@ pub extern "C" fn merqyduk_find(file: &[u8], signature: u32, offset: &mut u32) -
         *offset = line.offset;
     }
     line.size
+}
+
+// ---- a profile in APP2 segments
+
+#[no_mangle]
+pub extern "C" fn merqyduk_write_segments(file: &[u8], size: usize, out: &mut [u8]) -> u32
+    ensures { λ r. ⌜ GivesNumber (writtenSegments (now (file .entry)) size (length (now (out .entry)))) (now (out .entry)) (now (out .exit)) r ⌝ }
+{
+    match segments_writer::write_segments(file, size, out) {
+        Output::Written(n) => n,
+        Output::Refused(number) => number,
+    }
+}
+
+#[no_mangle]
+pub extern "C" fn merqyduk_join_segments(segments: &[u8], out: &mut [u8]) -> u32
+    ensures { λ r. ⌜ GivesNumber (joinedFile (now (segments .entry)) (length (now (out .entry)))) (now (out .entry)) (now (out .exit)) r ⌝ }
+{
+    match segments_joiner::join_segments(segments, out) {
+        Output::Written(n) => n,
+        Output::Refused(number) => number,
+    }
 }

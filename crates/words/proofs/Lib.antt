@@ -1,2 +1,1 @@
 mod Choice
-mod Rest

@@ -5,11 +5,11 @@ use mathlib.Core.Path.{_≡_, refl, ap, ap₂, _∙_}
 use mathlib.Core.Bool.{cond}
 use mathlib.Core.List.{List, [], _∷_, _++_}
 use native.Mathlib.Omega.{arith}
-use native.Mathlib.Nat.{add-zero}
+use native.Mathlib.Nat.{add-zero, le-of-eq}
 use lib.Dec.{ltb, lit<}
 use lib.IntN.{ℤ, pos, negsuc, negℤ}
-use lib.ListN.{length, getD, take, drop, drop-of-length-le}
-use lib.Seq.{getD-drop, drop-drop}
+use lib.ListN.{length, getD, take, drop, length-drop, drop-of-length-le}
+use lib.Seq.{getD-drop, drop-drop, take-all}
 use mir.Syntax.{w32}
 use mir.Val.{SFits, ofZ, toZ}
 use mir.ValLaws.{toZ-ofZ, ofZ-toZ, ofZ-fits, toZ-fits}
@@ -45,6 +45,10 @@ word32-halves l = rw (getD-drop 2 l 0 0, getD-drop 2 l 1 0) (omega arith)
 
 -- ---- a word at a place
 
+-- the part of a list from a place on, as `&slice[i..]` has it
+pub from-on : (l : List ℕ) (i : ℕ) → take (length l - i) (drop i l) ≡ drop i l
+from-on l i = take-all (length l - i) (drop i l) (le-of-eq (length-drop i l))
+
 pub word16-drop : (i : ℕ) (l : List ℕ) → word16 (drop i l) ≡ getD l i 0 * 256 + getD l (i + 1) 0
 unfolding word16
 word16-drop i l = rw (getD-drop i l 0 0, getD-drop i l 1 0, add-zero i)
@@ -75,7 +79,7 @@ word32-be32 n r h =
 
 -- ---- a word read and written
 
-be16-word16 : (a b : ℕ) → a < 256 → b < 256 → be16 (word16 (a ∷ b ∷ [])) ≡ a ∷ b ∷ []
+pub be16-word16 : (a b : ℕ) → a < 256 → b < 256 → be16 (word16 (a ∷ b ∷ [])) ≡ a ∷ b ∷ []
 unfolding be16 word16
 be16-word16 a b ha hb =
     let high : (a * 256 + b) / 256 % 256 ≡ a = omega arith in
@@ -105,6 +109,10 @@ byte-at (x ∷ l) (more h hs) (suc i) = byte-at l hs i
 
 pub bytes-drop : (n : ℕ) (l : List ℕ) → ((i : ℕ) → Byte (getD l i 0)) → (i : ℕ) → Byte (getD (drop n l) i 0)
 bytes-drop n l h i = rw (getD-drop n l i 0) (h (n + i))
+
+pub word16-lt : (l : List ℕ) → ((i : ℕ) → Byte (getD l i 0)) → word16 l < 2 ^ 16
+unfolding word16
+word16-lt l h = omega (arith, h 0, h 1)
 
 pub word32-lt : (l : List ℕ) → ((i : ℕ) → Byte (getD l i 0)) → word32 l < 2 ^ 32
 unfolding word32

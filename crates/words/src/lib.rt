@@ -113,7 +113,7 @@ fn get_u16_be(slice: &[u8], at: usize) -> u16
 }
 
 // The word at pos; bytes past the end count 0.
-fn read_u16_be(slice: &[u8], pos: usize) -> u16
+pub fn read_u16_be(slice: &[u8], pos: usize) -> u16
     ensures { λ r. ⌜ r ≡ word16 (drop pos (now (slice .entry))) ⌝ }
 {
     if slice.len() <= pos {

@@ -3,8 +3,7 @@
 use mathlib.Core.Path.{sym, _∙_}
 use borrow.Author.Needs.{needs}
 use Rattle.words.specs.Words.{word16}
-use Rattle.words.specs.WordsLaws.{word16-past}
-use Rattle.words.proofs.Rest.{from-on}
+use Rattle.words.specs.WordsLaws.{word16-past, from-on}
 use Rattle.words.proofs.read_u16_be.Statement.{statement}
 use Rattle.words.proofs.read_u16_be.Tie as tie
 

@@ -6,8 +6,7 @@ use native.Mathlib.Omega.{arith}
 use lib.ListN.{length, drop}
 use borrow.Author.Needs.{needs}
 use borrow.Author.Tests.{leb-true}
-use Rattle.words.specs.WordsLaws.{word32-drop, word32-halves, word32-past}
-use Rattle.words.proofs.Rest.{from-on}
+use Rattle.words.specs.WordsLaws.{word32-drop, word32-halves, word32-past, from-on}
 use Rattle.words.proofs.read_u32_be.Statement.{statement}
 use Rattle.words.proofs.read_u32_be.Tie as tie
 

@@ -1,0 +1,153 @@
+-- Segments joined: what was cut and numbered is complete and joins to the file, and the order of the segments does not matter. Assumes nothing.
+use Prim.Native.Nat.{ℕ, zero, suc, _+_, _≤_, _<_}
+use mathlib.Core.Path.{_≡_, refl, ap, ap₂, _∙_}
+use mathlib.Core.Bool.{Bool, true, false, _&&_, cond}
+use mathlib.Core.List.{List, [], _∷_, _++_}
+use native.Mathlib.Omega.{arith}
+use native.Mathlib.Nat.{zero-add}
+use borrow.Author.Tests.{le-leb, eq-eqb, ne-eqb, eqb-true}
+use lib.Dec.{leb, eqb}
+use lib.ListN.{length}
+use Rattle.buffer.specs.BoolLaws.{both-left, both-right}
+use Rattle.profile.specs.TagTypes.{join}
+use Rattle.app2.specs.Segments.{Segment, numbered}
+use Rattle.app2.specs.Joining.{times, eachOnce, counts, complete, chunkOf, chunksFrom, joined}
+use Rattle.app2.specs.Permutation.{Permutation, none, same-first, swap, then}
+
+-- ---- numbered chunks
+
+module _ (c : ℕ) where
+  pub length-numbered : (i : ℕ) (ps : List (List ℕ)) → length (numbered c i ps) ≡ length ps
+  unfolding numbered
+  length-numbered i [] = refl
+  length-numbered i (p ∷ ps) = ap suc (length-numbered (suc i) ps)
+
+  counts-numbered : (i : ℕ) (ps : List (List ℕ)) → counts c (numbered c i ps) ≡ true
+  unfolding numbered counts
+  counts-numbered i [] = refl
+  counts-numbered i (p ∷ ps) = rw (eq-eqb c c refl) (counts-numbered (suc i) ps)
+
+  -- a number below all of them stands on none
+  none-below : (j i : ℕ) (ps : List (List ℕ)) → j < i → times j (numbered c i ps) ≡ 0
+  unfolding numbered times
+  none-below j i [] h = refl
+  none-below j i (p ∷ ps) h = rw (ne-eqb i j (λ e. omega arith)) (zero-add _ ∙ none-below j (suc i) ps (omega arith))
+
+-- a segment with a number below all that are asked for changes nothing
+once-past : (k i : ℕ) (s : Segment) (ss : List Segment) → s .sequence < i → eachOnce k i (s ∷ ss) ≡ eachOnce k i ss
+unfolding eachOnce times
+once-past zero i s ss h = refl
+once-past (suc k) i s ss h =
+    rw (ne-eqb (s .sequence) i (λ e. omega arith), zero-add (times i ss), once-past k (suc i) s ss (omega arith))
+
+from-past : (k i : ℕ) (s : Segment) (ss : List Segment) → s .sequence < i → chunksFrom k i (s ∷ ss) ≡ chunksFrom k i ss
+unfolding chunksFrom chunkOf
+from-past zero i s ss h = refl
+from-past (suc k) i s ss h =
+    rw (ne-eqb (s .sequence) i (λ e. omega arith), from-past k (suc i) s ss (omega arith))
+
+once-numbered : (c i : ℕ) (ps : List (List ℕ)) → eachOnce (length ps) i (numbered c i ps) ≡ true
+unfolding numbered eachOnce times
+once-numbered c i [] = refl
+once-numbered c i (p ∷ ps) =
+    rw (eq-eqb i i refl, none-below c i (suc i) ps (omega arith), once-past (length ps) (suc i) (record { sequence = i; count = c; chunk = p }) (numbered c (suc i) ps) (omega arith))
+    (once-numbered c (suc i) ps)
+
+from-numbered : (c i : ℕ) (ps : List (List ℕ)) → chunksFrom (length ps) i (numbered c i ps) ≡ join ps
+unfolding numbered chunksFrom chunkOf join
+from-numbered c i [] = refl
+from-numbered c i (p ∷ ps) =
+    rw (eq-eqb i i refl, from-past (length ps) (suc i) (record { sequence = i; count = c; chunk = p }) (numbered c (suc i) ps) (omega arith))
+    (ap (λ (l : List ℕ). p ++ l) (from-numbered c (suc i) ps))
+
+-- chunks numbered from 1 on, with their number as the count, are complete
+pub complete-numbered : (ps : List (List ℕ)) → 1 ≤ length ps → complete (numbered (length ps) 1 ps) ≡ true
+unfolding complete
+complete-numbered ps h =
+    rw (length-numbered (length ps) 1 ps, le-leb 1 (length ps) h, counts-numbered (length ps) 1 ps) (once-numbered (length ps) 1 ps)
+
+-- and join to the chunks one after another
+pub joined-numbered : (c : ℕ) (ps : List (List ℕ)) → joined (numbered c 1 ps) ≡ join ps
+unfolding joined
+joined-numbered c ps = rw (length-numbered c 1 ps) (from-numbered c 1 ps)
+
+-- ---- in any order
+
+pub length-same : {one two : List Segment} → Permutation one two → length one ≡ length two
+length-same none = refl
+length-same (same-first a p) = ap suc (length-same p)
+length-same (swap a b l) = refl
+length-same (then p q) = length-same p ∙ length-same q
+
+swap-and : (a b c : Bool) → (a && (b && c)) ≡ (b && (a && c))
+swap-and true true c = refl
+swap-and true false c = refl
+swap-and false true c = refl
+swap-and false false c = refl
+
+counts-same : (c : ℕ) {one two : List Segment} → Permutation one two → counts c one ≡ counts c two
+unfolding counts
+counts-same c none = refl
+counts-same c (same-first a p) = ap (λ (x : Bool). eqb (a .count) c && x) (counts-same c p)
+counts-same c (swap a b l) = swap-and (eqb (a .count) c) (eqb (b .count) c) (counts c l)
+counts-same c (then p q) = counts-same c p ∙ counts-same c q
+
+times-same : (i : ℕ) {one two : List Segment} → Permutation one two → times i one ≡ times i two
+unfolding times
+times-same i none = refl
+times-same i (same-first a p) = ap (λ (x : ℕ). cond (eqb (a .sequence) i) 1 0 + x) (times-same i p)
+times-same i (swap a b l) = omega arith
+times-same i (then p q) = times-same i p ∙ times-same i q
+
+once-same : (k i : ℕ) {one two : List Segment} → Permutation one two → eachOnce k i one ≡ eachOnce k i two
+unfolding eachOnce
+once-same zero i p = refl
+once-same (suc k) i p = ap₂ (λ (x : ℕ) (y : Bool). eqb x 1 && y) (times-same i p) (once-same k (suc i) p)
+
+-- a permutation of complete segments is complete
+pub complete-same : {one two : List Segment} → Permutation one two → complete one ≡ complete two
+unfolding complete
+complete-same {one} {two} p =
+    ap (λ (n : ℕ). leb 1 n && (counts n one && eachOnce n 1 one)) (length-same p)
+    ∙ ap₂ (λ (x y : Bool). leb 1 (length two) && (x && y)) (counts-same (length two) p) (once-same (length two) 1 p)
+
+-- the data with a number that is not doubled
+swap-chunk : (i : ℕ) (a b : Segment) (l : List Segment) (t u : Bool) → eqb (a .sequence) i ≡ t → eqb (b .sequence) i ≡ u
+    → cond t 1 0 + (cond u 1 0 + times i l) ≤ 1
+    → cond t (a .chunk) (cond u (b .chunk) (chunkOf i l)) ≡ cond u (b .chunk) (cond t (a .chunk) (chunkOf i l))
+swap-chunk i a b l true true e f h = absurd (omega arith)
+swap-chunk i a b l true false e f h = refl
+swap-chunk i a b l false true e f h = refl
+swap-chunk i a b l false false e f h = refl
+
+first-chunk : (i : ℕ) (a : Segment) (l m : List Segment) (t : Bool) → cond t 1 0 + times i l ≤ 1
+    → (times i l ≤ 1 → chunkOf i l ≡ chunkOf i m)
+    → cond t (a .chunk) (chunkOf i l) ≡ cond t (a .chunk) (chunkOf i m)
+first-chunk i a l m true h k = refl
+first-chunk i a l m false h k = k (omega arith)
+
+chunk-same : (i : ℕ) {one two : List Segment} → Permutation one two → times i one ≤ 1 → chunkOf i one ≡ chunkOf i two
+unfolding times chunkOf
+chunk-same i none h = refl
+chunk-same i (same-first {l} {m} a p) h = first-chunk i a l m (eqb (a .sequence) i) h (chunk-same i p)
+chunk-same i (swap a b l) h = swap-chunk i a b l (eqb (a .sequence) i) (eqb (b .sequence) i) refl refl h
+chunk-same i (then p q) h = chunk-same i p h ∙ chunk-same i q (rw (times-same i p) at h)
+
+from-same : (k i : ℕ) {one two : List Segment} → Permutation one two → eachOnce k i one ≡ true
+    → chunksFrom k i one ≡ chunksFrom k i two
+unfolding eachOnce chunksFrom
+from-same zero i p e = refl
+from-same (suc k) i {one} {two} p e =
+    let here : eqb (times i one) 1 ≡ true = both-left (eqb (times i one) 1) (eachOnce k (suc i) one) e in
+    let onward : eachOnce k (suc i) one ≡ true = both-right (eqb (times i one) 1) (eachOnce k (suc i) one) e in
+    ap₂ (λ (x y : List ℕ). x ++ y) (chunk-same i p (omega (arith, eqb-true (times i one) 1 here))) (from-same k (suc i) p onward)
+
+-- complete segments join to the same bytes in any order
+pub joined-same : {one two : List Segment} → Permutation one two → complete one ≡ true → joined one ≡ joined two
+unfolding joined complete
+joined-same {one} {two} p e =
+    let once : eachOnce (length one) 1 one ≡ true =
+    both-right (counts (length one) one) (eachOnce (length one) 1 one)
+    (both-right (leb 1 (length one)) (counts (length one) one && eachOnce (length one) 1 one) e)
+    in
+    from-same (length one) 1 p once ∙ ap (λ (k : ℕ). chunksFrom k 1 two) (length-same p)

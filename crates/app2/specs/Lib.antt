@@ -1,0 +1,12 @@
+pub mod Segments
+pub mod Joining
+pub mod App2
+pub mod Permutation
+pub mod CutLaws
+pub mod ParseLaws
+pub mod JoinLaws
+pub mod ChecksLaws
+pub mod SegmentsLaws
+pub mod TakeLaws
+pub mod RoundTrip
+pub mod AnswerNumbers

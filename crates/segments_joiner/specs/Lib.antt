@@ -1,0 +1,3 @@
+pub mod Data
+pub mod GatheringLaws
+pub mod LongLaws
