@@ -1,5 +1,6 @@
 #!/bin/sh
-# Times the leaves, and the reader beside the MD5 of its file. Needs OpenSSL's headers (libssl-dev); run compare.sh before, which builds the libraries.
+# Times the leaves, the reader beside the MD5 of its file, and the calls on segments beside the reader. Needs OpenSSL's headers (libssl-dev); run compare.sh
+# before, which builds the libraries.
 #
 #   differential/bench.sh [OUT]
 set -eu
@@ -20,3 +21,5 @@ c++ -std=c++17 -O2 -Wno-deprecated-declarations "$here/bench/leaves.cpp" "$out/p
 "$out/leaves"
 c++ -std=c++11 -O2 -I"$here/../include" "$here/bench/reader.cpp" "$out/port/target/staticlib/libhost.a" "$out/port/target/staticlib/libleaves.a" -o "$out/reader"
 "$out/reader"
+c++ -std=c++11 -O2 -I"$here/../include" "$here/bench/segments.cpp" "$out/port/target/staticlib/libhost.a" -o "$out/segments"
+"$out/segments"

@@ -6,7 +6,7 @@
 #include <stdio.h>
 #include <string.h>
 
-enum { DEPTH = 16384, PAINT = 0xa5 };
+enum { DEPTH = 16384, PAINT = 0xa5, LONG_DATA = 3000 };
 
 struct arguments {
     uint32_t white, primaries, curve, intent;
@@ -22,6 +22,11 @@ struct arguments {
     const uint8_t *text;
     size_t text_len;
     uint8_t record[MERQYDUK_ENCODING_SIZE];
+    /* The data of a segment that is written; segments that are joined, and what lends room to either. */
+    size_t size;
+    uint8_t row[LONG_DATA + MERQYDUK_MAX_SEGMENTS * MERQYDUK_SEGMENT_FRONT];
+    size_t row_len;
+    uint8_t lent[MERQYDUK_MAX_SEGMENTS_LENGTH];
 };
 
 typedef void call(struct arguments *a);
@@ -71,6 +76,12 @@ static void find(struct arguments *a) {
 static void parse(struct arguments *a) {
     merqyduk_parse_description(a->text, a->text_len, a->record, sizeof a->record);
 }
+
+static void write_segments(struct arguments *a) {
+    merqyduk_write_segments(a->file, a->file_len, a->size, a->lent, sizeof a->lent);
+}
+
+static void join_segments(struct arguments *a) { merqyduk_join_segments(a->row, a->row_len, a->lent, sizeof a->lent); }
 
 /* The bytes below this function's own stack that the call has changed. */
 __attribute__((noinline)) static size_t depth(call *make, struct arguments *a) {
@@ -123,6 +134,40 @@ static void fill_job(const struct arguments *a, uint8_t bytes[59]) {
     }
 }
 
+/* Puts the data into so many segments, the last of them first. */
+static void fill_segments(struct arguments *a, const uint8_t *data, size_t length, size_t count) {
+    const size_t size = length / count;
+    uint8_t *at = a->row;
+    for (size_t i = count; i > 0; i--) {
+        const size_t from = (i - 1) * size, bytes = i == count ? length - from : size;
+        const uint8_t start[] = {0xff, 0xe2, (uint8_t)((bytes + 16) >> 8), (uint8_t)(bytes + 16)};
+        memcpy(at, start, 4);
+        memcpy(at + 4, "ICC_PROFILE", 12);
+        at[16] = (uint8_t)i;
+        at[17] = (uint8_t)count;
+        memcpy(at + MERQYDUK_SEGMENT_FRONT, data + from, bytes);
+        at += MERQYDUK_SEGMENT_FRONT + bytes;
+    }
+    a->row_len = (size_t)(at - a->row);
+}
+
+/* The last profile in some segments or in all that there can be. Or more data than a file has, with that profile's header and a size field
+ * that is right, which the reader refuses last of all such data. Answers whether it is joined. */
+static int choose_segments(struct arguments *a) {
+    uint8_t data[LONG_DATA] = {0};
+    const size_t count = random_bits() % 2 ? MERQYDUK_MAX_SEGMENTS : 1 + random_bits() % MERQYDUK_MAX_SEGMENTS;
+    a->size = 1 + random_bits() % 400;
+    memcpy(data, a->file, a->file_len);
+    if (random_bits() % 2) {
+        fill_segments(a, a->file, a->file_len, count);
+    } else {
+        data[2] = LONG_DATA >> 8;
+        data[3] = LONG_DATA & 255;
+        fill_segments(a, data, LONG_DATA, count);
+    }
+    return merqyduk_join_segments(a->row, a->row_len, a->lent, sizeof a->lent) >= MERQYDUK_MIN_PROFILE;
+}
+
 int main(void) {
     static const struct {
         const char *name;
@@ -138,7 +183,9 @@ int main(void) {
                  {"merqyduk_job_profile", job_profile},
                  {"merqyduk_read", read_plan},
                  {"merqyduk_find", find},
-                 {"merqyduk_parse_description", parse}};
+                 {"merqyduk_parse_description", parse},
+                 {"merqyduk_write_segments", write_segments},
+                 {"merqyduk_join_segments", join_segments}};
     enum { CALLS = sizeof calls / sizeof calls[0], ENCODINGS = 10000 };
     size_t most[CALLS] = {0};
     static struct arguments a;
@@ -147,7 +194,7 @@ int main(void) {
     static const char *const typed[] = {"sRGB", "XYB_Abs", "Gra_0.3457000;0.3585000_Rel_g0.4545455",
                                         "RGB_-99.9999999;-99.9999999_-99.9999999,-99.9999999;-99.9999999,-99.9999999;"
                                         "-99.9999999,-99.9999999_Sat_g-99.9999999"};
-    int accepted = 0, read = 0;
+    int accepted = 0, read = 0, joined = 0;
     a.job = bytes;
     a.job_len = sizeof bytes;
     for (int n = 0; n < ENCODINGS; n++) {
@@ -174,13 +221,14 @@ int main(void) {
             a.text_len = strlen(text);
         }
         if (merqyduk_parse_description(a.text, a.text_len, a.record, sizeof a.record) == 0) read++;
+        joined += choose_segments(&a);
         for (int i = 0; i < CALLS; i++) {
             size_t d = depth(calls[i].make, &a);
             if (d > most[i]) most[i] = d;
         }
     }
     int failed = 0;
-    printf("stack: %d of the encodings led to a profile that was read, and %d texts were read\n", accepted, read);
+    printf("stack: %d of the encodings led to a profile that was read, %d texts were read, and %d profiles joined\n", accepted, read, joined);
     for (int i = 0; i < CALLS; i++) {
         printf("stack: %-26s %5zu bytes at most over %d encodings\n", calls[i].name, most[i], ENCODINGS);
         if (most[i] > MERQYDUK_STACK) failed = 1;

@@ -1,7 +1,8 @@
 // Calls the entries of include/merqyduk.h as a board would: the examples of 01, outputs of every length up to the profile's, and the length told
 // without an output for each of them; outputs, jobs, files and texts that end at a page that may not be touched; numbers without meaning, and jobs
-// that are cut or have bytes left. Reads each profile back, finds its elements, and has files refused by each number. Types every named encoding,
-// numbers of one's own, and texts that are no description. Writes the accepted profiles into the folder that it is given.
+// that are cut or have bytes left. Reads each profile back, finds its elements, and has files refused by each number. Puts files into segments of many
+// sizes and joins them, in order and out of it, whole and damaged. Types every named encoding, numbers of one's own, and texts that are no
+// description. Writes the accepted profiles into the folder that it is given.
 #include "merqyduk.h"
 
 #include <sys/mman.h>
@@ -73,18 +74,19 @@ Call xyb(uint32_t intent) {
 class Guarded {
   public:
     Guarded(size_t n, bool at_end) : size_(n) {
-        page_ = static_cast<size_t>(sysconf(_SC_PAGESIZE));
+        const size_t page = static_cast<size_t>(sysconf(_SC_PAGESIZE)), between = (n / page + 1) * page;
+        mapped_ = between + 2 * page;
         base_ = static_cast<uint8_t *>(
-            mmap(nullptr, 3 * page_, PROT_READ | PROT_WRITE, MAP_PRIVATE | MAP_ANONYMOUS, -1, 0));
-        if (base_ == MAP_FAILED || mprotect(base_, page_, PROT_NONE) != 0 ||
-            mprotect(base_ + 2 * page_, page_, PROT_NONE) != 0) {
+            mmap(nullptr, mapped_, PROT_READ | PROT_WRITE, MAP_PRIVATE | MAP_ANONYMOUS, -1, 0));
+        if (base_ == MAP_FAILED || mprotect(base_, page, PROT_NONE) != 0 ||
+            mprotect(base_ + page + between, page, PROT_NONE) != 0) {
             std::perror("mmap");
             std::exit(2);
         }
-        out_ = at_end ? base_ + 2 * page_ - n : base_ + page_;
+        out_ = at_end ? base_ + page + between - n : base_ + page;
         for (size_t i = 0; i < n; i++) out_[i] = fill(i);
     }
-    ~Guarded() { munmap(base_, 3 * page_); }
+    ~Guarded() { munmap(base_, mapped_); }
     Guarded(const Guarded &) = delete;
     Guarded &operator=(const Guarded &) = delete;
 
@@ -97,7 +99,7 @@ class Guarded {
     }
 
   private:
-    size_t size_, page_;
+    size_t size_, mapped_;
     uint8_t *base_, *out_;
 };
 
@@ -301,7 +303,97 @@ Bytes with_number(Bytes bytes, size_t at, int32_t number) {
     return bytes;
 }
 
-// The reader's number comes before 9; nothing is found in such a file.
+// ---- segments, as 02 has them
+
+using Segments = std::vector<Bytes>;
+
+Bytes segment(size_t sequence, size_t count, const Bytes &data) {
+    const size_t length = data.size() + 16;
+    Bytes made = {0xff, 0xe2, uint8_t(length >> 8), uint8_t(length), 'I', 'C', 'C', '_', 'P', 'R', 'O', 'F', 'I', 'L', 'E', 0,
+                  uint8_t(sequence), uint8_t(count)};
+    made.insert(made.end(), data.begin(), data.end());
+    return made;
+}
+
+// How much data each segment has: `size` bytes, the last what is left. A file of no bytes is one segment without data.
+std::vector<size_t> even(size_t length, size_t size) {
+    std::vector<size_t> sizes(length == 0 ? 0 : (length - 1) / size, size);
+    sizes.push_back(length - sizes.size() * size);
+    return sizes;
+}
+
+// The file in segments with so much data each.
+Segments cut(const Bytes &f, const std::vector<size_t> &sizes) {
+    Segments parts;
+    size_t at = 0;
+    for (size_t size : sizes) {
+        parts.push_back(segment(parts.size() + 1, sizes.size(), Bytes(f.begin() + at, f.begin() + at + size)));
+        at += size;
+    }
+    return parts;
+}
+
+Segments reversed(Segments parts) {
+    std::reverse(parts.begin(), parts.end());
+    return parts;
+}
+
+Bytes in_row(const Segments &parts) {
+    Bytes all;
+    for (const Bytes &part : parts) all.insert(all.end(), part.begin(), part.end());
+    return all;
+}
+
+// A call on an output of n bytes: its answer, its result at the front, and all else unchanged, what was read included.
+void lends(const std::string &name, uint32_t answer, const Bytes &in, size_t n, const Bytes &result,
+           const std::function<uint32_t(const uint8_t *, uint8_t *)> &call) {
+    for (bool at_end : {false, true}) {
+        auto kept = guarded(in, at_end);
+        Guarded out(n, at_end);
+        expect(call(kept->data(), out.data()) == answer, name + " answered " + std::to_string(answer) + " in " + std::to_string(n));
+        expect(std::equal(in.begin(), in.end(), kept->data()), name + " leaves what it reads unchanged");
+        expect(std::equal(result.begin(), result.end(), out.data()), name + " has its bytes");
+        expect(out.unchanged_from(result.size()), name + " leaves the rest unchanged in " + std::to_string(n));
+    }
+    if (n == 0) expect(call(in.data(), nullptr) == answer, name + " with no output");
+}
+
+// No output is touched, whatever its length.
+void refuses_put(const std::string &name, uint32_t number, const Bytes &f, size_t size) {
+    const std::string what = name + " in segments of " + std::to_string(size);
+    for (size_t n : {size_t(0), size_t(1), size_t(503), size_t(6000)})
+        lends(what, number, f, n, {}, [&](const uint8_t *file, uint8_t *out) {
+            return merqyduk_write_segments(file, f.size(), size, out, n);
+        });
+}
+
+void puts_into(const std::string &name, uint32_t answer, const Bytes &f, size_t size, size_t n, const Bytes &result) {
+    lends(name + " in segments of " + std::to_string(size), answer, f, n, result, [&](const uint8_t *file, uint8_t *out) {
+        return merqyduk_write_segments(file, f.size(), size, out, n);
+    });
+}
+
+// A file that the reader accepts: 53 by the size and the number of segments, 55 by the output, or the segments.
+void puts(const std::string &name, const Bytes &f, size_t size) {
+    if (size < 1 || size > 65519 || even(f.size(), size).size() > 255) return refuses_put(name, 53, f, size);
+    const Bytes all = in_row(cut(f, even(f.size(), size)));
+    for (size_t n : {size_t(0), size_t(1), f.size(), all.size() - 18, all.size() - 1}) puts_into(name, 55, f, size, n, {});
+    for (size_t n : {all.size(), all.size() + 1, all.size() + 4096})
+        puts_into(name, uint32_t(all.size()), f, size, n, all);
+}
+
+// The answer to segments in an output that has room, where `data` is what they hold by their sequence numbers. With less room it is 55, unless it is 54.
+void joins(const std::string &name, uint32_t answer, const Segments &parts, const Bytes &data) {
+    const Bytes all = in_row(parts);
+    for (size_t n : {size_t(0), size_t(1), data.size() / 2, data.size() - 1, data.size(), data.size() + 1, data.size() + 4096}) {
+        if (n == SIZE_MAX) continue; // one less than no data
+        const uint32_t expected = answer != 54 && n < data.size() ? 55 : answer;
+        lends(name + " joined", expected, all, n, expected >= MERQYDUK_MIN_PROFILE ? data : Bytes(),
+              [&](const uint8_t *segments, uint8_t *out) { return merqyduk_join_segments(segments, all.size(), out, n); });
+    }
+}
+
+// The reader's number comes before 9; nothing is found in such a file, it is not put into segments, and from segments it does not come out.
 void refuses_file(const std::string &name, uint32_t number, const Bytes &f) {
     for (bool at_end : {false, true}) {
         auto file = guarded(f, at_end);
@@ -314,6 +406,13 @@ void refuses_file(const std::string &name, uint32_t number, const Bytes &f) {
         uint32_t offset = 0xdeadbeefu;
         expect(merqyduk_find(file->data(), f.size(), 0x64657363u, &offset) == 0, name + " has no element");
         expect(offset == 0xdeadbeefu, name + " leaves the offset unchanged");
+    }
+    for (size_t size : {size_t(0), size_t(1), size_t(100), size_t(65519), size_t(65520), SIZE_MAX})
+        refuses_put(name, number, f, size);
+    for (size_t size : {size_t(3), size_t(100), size_t(65519)}) {
+        const Segments parts = cut(f, even(f.size(), size));
+        joins(name, number, parts, f);
+        joins(name + ", reversed", number, reversed(parts), f);
     }
 }
 
@@ -346,6 +445,460 @@ void bad_files(const Bytes &srgb, const Bytes &gray, const Bytes &xyb) {
     Bytes no_id = srgb;
     std::fill(no_id.begin() + 84, no_id.begin() + 100, 0);
     refuses_file("no id", 28, no_id);
+}
+
+// ---- files that no encoding leads to, for the lengths that they have
+
+// A block of MD5, by RFC 1321.
+void md5_block(const uint8_t *block, uint32_t state[4]) {
+    const uint32_t turns[4][4] = {{7, 12, 17, 22}, {5, 9, 14, 20}, {4, 11, 16, 23}, {6, 10, 15, 21}};
+    uint32_t a = state[0], b = state[1], c = state[2], d = state[3];
+    for (uint32_t i = 0; i < 64; i++) {
+        const uint32_t mixed[4] = {(b & c) | (~b & d), (d & b) | (~d & c), b ^ c ^ d, c ^ (b | ~d)};
+        const uint32_t places[4] = {i, 5 * i + 1, 3 * i + 5, 7 * i};
+        const uint8_t *at = block + 4 * (places[i / 16] % 16);
+        const uint32_t sine = uint32_t(std::floor(std::fabs(std::sin(i + 1.0)) * 4294967296.0));
+        const uint32_t sum = a + mixed[i / 16] + sine +
+                             (at[0] | uint32_t(at[1]) << 8 | uint32_t(at[2]) << 16 | uint32_t(at[3]) << 24);
+        const uint32_t turn = turns[i / 16][i % 4];
+        a = d;
+        d = c;
+        c = b;
+        b += sum << turn | sum >> (32 - turn);
+    }
+    state[0] += a;
+    state[1] += b;
+    state[2] += c;
+    state[3] += d;
+}
+
+// The file with its right id.
+Bytes with_id(Bytes f) {
+    Bytes hashed = f;
+    for (size_t i = 44; i < 100; i++)
+        if (i < 48 || (i >= 64 && i < 68) || i >= 84) hashed[i] = 0;
+    const uint64_t bits = 8 * uint64_t(hashed.size());
+    hashed.push_back(128);
+    while (hashed.size() % 64 != 56) hashed.push_back(0);
+    for (int i = 0; i < 8; i++) hashed.push_back(uint8_t(bits >> (8 * i)));
+    uint32_t state[4] = {0x67452301, 0xefcdab89, 0x98badcfe, 0x10325476};
+    for (size_t at = 0; at < hashed.size(); at += 64) md5_block(&hashed[at], state);
+    for (size_t i = 0; i < 16; i++) f[84 + i] = uint8_t(state[i / 4] >> (8 * (i % 4)));
+    return f;
+}
+
+// The file of the same plan but for a text of so many letters: all that stands after the text moves.
+Bytes with_letters(const Bytes &f, size_t letters) {
+    const size_t at = word(f, 136), before = (word(f, 140) + 3) / 4 * 4, size = 28 + 2 * letters;
+    Bytes made(f.begin(), f.begin() + at + 28);
+    made.resize(at + (size + 3) / 4 * 4);
+    for (size_t i = 0; i < letters; i++) made[at + 29 + 2 * i] = uint8_t('!' + i % 90);
+    made.insert(made.end(), f.begin() + at + before, f.end());
+    made = with_number(made, 0, int32_t(made.size()));
+    made = with_number(made, at + 20, int32_t(2 * letters));
+    made = with_number(made, 140, int32_t(size));
+    for (uint32_t i = 1; i < word(f, 128); i++) {
+        const size_t offset = 136 + 12 * size_t(i);
+        made = with_number(made, offset, int32_t(word(f, offset) + made.size() - f.size()));
+    }
+    return with_id(made);
+}
+
+// ---- files put into segments
+
+// All sizes of data that could make a difference, and each size below the length by the bytes of one output.
+void put_into_segments(const std::string &name, const Bytes &f) {
+    merqyduk_plan plan;
+    expect(merqyduk_read(f.data(), f.size(), &plan, sizeof plan) == 0, name + " is read");
+    std::vector<size_t> sizes = {0, 1, 2, 3, 4, 5, 7, 100, f.size() - 1, f.size(), f.size() + 1, 65519, 65520, 65536, 65541,
+                                 (size_t(1) << 32) + 5, (size_t(1) << 32) + 65519, SIZE_MAX - 1, SIZE_MAX};
+    for (size_t size = 8; size < f.size() - 1; size++)
+        if (f.size() % size == 0) sizes.push_back(size);
+    for (size_t size : sizes) puts(name, f, size);
+    bool all_right = true;
+    for (size_t size = 1; size <= f.size() + 2; size++) {
+        const Bytes all = in_row(cut(f, even(f.size(), size)));
+        Bytes out(MERQYDUK_MAX_SEGMENTS_LENGTH, 7), after = out;
+        const bool few = even(f.size(), size).size() <= 255;
+        if (few) std::copy(all.begin(), all.end(), after.begin());
+        all_right = all_right && merqyduk_write_segments(f.data(), f.size(), size, out.data(), out.size()) ==
+                                     (few ? uint32_t(all.size()) : 53u);
+        all_right = all_right && out == after;
+    }
+    expect(all_right, name + " in segments of each size");
+}
+
+// Exactly 255 segments and 256 with the same size of data, and the longest file.
+void numbers_of_segments(const Bytes &srgb, const Bytes &gray) {
+    const struct {
+        const Bytes &from;
+        size_t letters, length, size, count;
+    } files[] = {{gray, 234, 764, 3, 255}, {gray, 236, 768, 3, 256},  {gray, 362, 1020, 4, 255},  {gray, 364, 1024, 4, 256},
+                 {gray, 108, 512, 2, 256}, {gray, 106, 508, 2, 254},  {srgb, 134, 764, 3, 255},   {srgb, 136, 768, 3, 256},
+                 {srgb, 262, 1020, 4, 255}, {srgb, 264, 1024, 4, 256}, {srgb, 372, 1240, 5, 248}, {srgb, 371, 1240, 4, 310}};
+    for (const auto &file : files) {
+        const Bytes f = with_letters(file.from, file.letters);
+        expect(f.size() == file.length, "a file of " + std::to_string(file.length));
+        expect(even(f.size(), file.size).size() == file.count, std::to_string(file.count) + " segments");
+        put_into_segments("a file of " + std::to_string(file.length), f);
+    }
+    const Bytes longest = with_letters(srgb, 372), most = in_row(cut(longest, even(1240, 5)));
+    expect(longest.size() == MERQYDUK_MAX_FILE && most.size() <= MERQYDUK_MAX_SEGMENTS_LENGTH, "the longest file in segments");
+    for (size_t n = 0; n < most.size(); n++) puts_into("the longest file", 55, longest, 5, n, {});
+}
+
+// ---- segments joined
+
+// Segments with so much data each, in order, reversed, and with each other one first.
+void joins_in_any_order(const std::string &name, uint32_t answer, const Bytes &f, const std::vector<size_t> &sizes) {
+    const Segments parts = cut(f, sizes);
+    joins(name, answer, parts, f);
+    joins(name + ", reversed", answer, reversed(parts), f);
+    Segments mixed;
+    for (size_t first : {size_t(1), size_t(0)})
+        for (size_t i = first; i < parts.size(); i += 2) mixed.push_back(parts[i]);
+    joins(name + ", mixed", answer, mixed, f);
+}
+
+void good_segments(const std::string &name, const Bytes &f) {
+    const size_t length = f.size();
+    for (size_t size : {size_t(6), size_t(7), size_t(100), length / 3 + 1, length / 2, length - 1, length, length + 1})
+        joins_in_any_order(name + " by " + std::to_string(size), uint32_t(length), f, even(length, size));
+    // Data of other sizes, none in the first, a middle and the last segment, and as many segments as there can be.
+    joins_in_any_order(name + " unevenly", uint32_t(length), f, {1, 140, 3, 90, length - 234});
+    joins_in_any_order(name + " with no data in front", uint32_t(length), f, {0, 17, 0, 0, length - 17});
+    joins_in_any_order(name + " with no data at the end", uint32_t(length), f, {length - 1, 1, 0});
+    joins_in_any_order(name + " and an empty segment", uint32_t(length), f, {length, 0});
+    std::vector<size_t> many(255, 1);
+    many[0] = 0;
+    many[254] = length - 253;
+    joins_in_any_order(name + " in 255", uint32_t(length), f, many);
+    std::rotate(many.begin(), many.begin() + 100, many.end());
+    joins_in_any_order(name + " in 255 others", uint32_t(length), f, many);
+    // All orders of four.
+    const Segments parts = cut(f, even(length, length / 4));
+    expect(parts.size() == 4, name + " in four");
+    std::vector<size_t> order(parts.size());
+    for (size_t i = 0; i < order.size(); i++) order[i] = i;
+    do {
+        Segments mixed;
+        for (size_t i : order) mixed.push_back(parts[i]);
+        joins(name + " in four", uint32_t(length), mixed, f);
+    } while (std::next_permutation(order.begin(), order.end()));
+}
+
+// The segments with one byte of one of them changed.
+Segments with(Segments parts, size_t which, size_t at, size_t byte) {
+    parts[which][at] = uint8_t(byte);
+    return parts;
+}
+
+// One fault at a time, in each of three segments, in an order that is not theirs. `f` is what they would hold.
+void bad_fronts(const Bytes &f) {
+    const Segments parts = cut(f, even(f.size(), f.size() / 3 + 1));
+    expect(parts.size() == 3, "three segments");
+    const Segments row = {parts[1], parts[2], parts[0]};
+    joins("three segments", uint32_t(f.size()), row, f);
+    for (size_t which = 0; which < 3; which++) {
+        const std::string name = "segment " + std::to_string(which) + " with ";
+        joins(name + "marker FE E2", 54, with(row, which, 0, 0xfe), f);
+        joins(name + "marker FF E1", 54, with(row, which, 1, 0xe1), f);
+        for (size_t i = 4; i < 16; i++) joins(name + "another name", 54, with(row, which, i, row[which][i] ^ 0x20), f);
+        for (size_t count : {0, 1, 2, 4, 255}) joins(name + "another count", 54, with(row, which, 17, count), f);
+        for (size_t sequence : {0, 4, 255}) joins(name + "no such sequence number", 54, with(row, which, 16, sequence), f);
+        for (size_t sequence = 1; sequence <= 3; sequence++)
+            if (sequence != row[which][16]) joins(name + "another's sequence number", 54, with(row, which, 16, sequence), f);
+        const size_t length = row[which].size() - 2;
+        for (size_t other : {size_t(0), size_t(1), size_t(15), size_t(16), length - 1, length + 1, size_t(65535)})
+            joins(name + "another length", 54, with(with(row, which, 2, other >> 8), which, 3, other), f);
+        Segments two = row;
+        two.erase(two.begin() + std::ptrdiff_t(which));
+        joins(name + "itself missing", 54, two, f);
+        Segments four = row;
+        four.push_back(row[which]);
+        joins(name + "itself twice", 54, four, f);
+        for (Bytes &part : four) part[17] = 4;
+        joins(name + "itself twice, and counted so", 54, four, f);
+    }
+    for (size_t count : {0, 1, 2, 4, 255})
+        joins("another count in all", 54, with(with(with(row, 0, 17, count), 1, 17, count), 2, 17, count), f);
+}
+
+void bad_segments(const Bytes &f) {
+    bad_fronts(f);
+    const Segments whole = {segment(1, 1, f)};
+    joins("one segment", uint32_t(f.size()), whole, f);
+    expect(merqyduk_join_segments(nullptr, 0, nullptr, 0) == 54, "no segment and no output");
+    joins("no segment", 54, {}, f);
+    const size_t length = f.size() + 16;
+    for (size_t other : {length - 1, length + 1, size_t(15), size_t(0), size_t(65535)})
+        joins("one segment of another length", 54, with(with(whole, 0, 2, other >> 8), 0, 3, other), f);
+    for (size_t sequence : {0, 2, 255}) joins("one segment of another number", 54, with(whole, 0, 16, sequence), f);
+    for (size_t count : {0, 2, 255}) joins("one segment of another count", 54, with(whole, 0, 17, count), f);
+    // A front alone: of length 16 it is a segment without data, which the reader refuses, and of length 15 none.
+    joins("an empty segment", 21, {segment(1, 1, {})}, {});
+    joins("a front of length 15", 54, with({segment(1, 1, {})}, 0, 3, 15), {});
+    Segments cut_off = {segment(1, 1, {})};
+    cut_off[0].pop_back();
+    joins("a front of length 15 with 17 bytes", 54, with(cut_off, 0, 3, 15), {});
+    for (size_t count : {2, 255}) joins("empty segments", 21, cut({}, std::vector<size_t>(count, 0)), {});
+    // Bytes after the last segment, and each cut.
+    for (uint8_t byte : {0x00, 0xff, 0xe2}) joins("a stray byte", 54, {whole[0], {byte}}, f);
+    joins("a stray marker", 54, {whole[0], {0xff, 0xe2}}, f);
+    joins("a stray end of the picture", 54, {whole[0], {0xff, 0xd9}}, f);
+    joins("a stray byte in front", 54, {{0}, whole[0]}, f);
+    joins("a fill byte in front", 54, {{0xff}, whole[0]}, f);
+    joins("a stray byte between", 54, {cut(f, even(f.size(), 200))[0], {0}, cut(f, even(f.size(), 200))[1]}, f);
+    const Bytes two = in_row(cut(f, even(f.size(), f.size() / 2)));
+    for (size_t n = 0; n < two.size(); n++) joins("a cut to " + std::to_string(n), 54, {Bytes(two.begin(), two.begin() + n)}, {});
+}
+
+// 256 segments have no count: a byte has none, whatever their numbers.
+void too_many_segments(const Bytes &f) {
+    std::vector<size_t> sizes(256, 0);
+    sizes[0] = f.size();
+    for (size_t length : {256, 257, 300, 511, 512}) {
+        sizes.resize(length);
+        joins(std::to_string(length) + " segments", 54, cut(f, sizes), f);
+        for (size_t count : {0, 1, 255}) {
+            Segments parts = cut(f, sizes);
+            for (Bytes &part : parts) part[17] = uint8_t(count);
+            joins(std::to_string(length) + " segments that count otherwise", 54, parts, f);
+            // With 1 to 255 and one of these again, or all the same.
+            parts[255][16] = 255;
+            joins(std::to_string(length) + " segments up to 255", 54, parts, f);
+        }
+    }
+}
+
+// A front of length 15 with the next right behind it. In the place of its count stands the FF of the next marker, which is right for 255 segments.
+void front_of_fifteen(const Bytes &f) {
+    std::vector<size_t> sizes(255, 1);
+    sizes[7] = 0;
+    sizes[254] = f.size() - 253;
+    Segments parts = cut(f, sizes);
+    joins("255 segments", uint32_t(f.size()), parts, f);
+    parts[7][3] = 15;
+    parts[7].pop_back();
+    joins("a front of length 15 among 255", 54, parts, f);
+    joins("a front of length 15 among 255, reversed", 54, reversed(parts), f);
+}
+
+// More data than a file has: the reader's number is found without the whole of it in one place.
+void long_data(const Bytes &from, size_t length, const std::vector<size_t> &sizes) {
+    Bytes data = from;
+    for (size_t i = from.size(); i < length; i++) data.push_back(uint8_t(i * 7));
+    data = with_number(data, 0, int32_t(length));
+    const std::string name = "data of " + std::to_string(length) + " bytes";
+    joins_in_any_order(name, 25, data, sizes);
+    joins_in_any_order(name + " with intent 4", 24, with(data, 67, 4), sizes);
+    joins_in_any_order(name + " of another class", 23, with(data, 12, 'x'), sizes);
+    joins_in_any_order(name + " with a reserved byte", 23, with(data, 127, 1), sizes);
+    joins_in_any_order(name + " with another size field", 22, with(data, 0, 1), sizes);
+    joins_in_any_order(name + " with the size field of the file", 22, with_number(data, 0, int32_t(from.size())), sizes);
+    // The first that applies.
+    joins_in_any_order(name + " with two faults", 22, with(with(data, 3, uint8_t(data[3] + 1)), 12, 'x'), sizes);
+    joins_in_any_order(name + " with two others", 23, with(with(data, 67, 4), 12, 'x'), sizes);
+}
+
+void much_data(const Bytes &srgb, const Bytes &gray, const Bytes &xyb) {
+    for (const Bytes *from : {&srgb, &gray, &xyb}) {
+        for (size_t length : {size_t(1240), size_t(1241), size_t(1244), size_t(2000)})
+            for (size_t size : {size_t(8), size_t(300), size_t(65519)}) long_data(*from, length, even(length, size));
+        // The header in segments of a byte, and after them others.
+        std::vector<size_t> sizes(200, 1);
+        sizes.insert(sizes.end(), {0, 1000, 0, 800});
+        long_data(*from, 2000, sizes);
+    }
+    for (size_t length : {size_t(65519), size_t(65520), size_t(65536 + 504), size_t(200000)})
+        long_data(srgb, length, even(length, 65519));
+}
+
+// As much data as segments can have. By its few outputs alone: each is of 16 MB.
+void most_data(const Bytes &srgb) {
+    Bytes data = srgb;
+    data.resize(255 * 65519, 0xa5);
+    data = with_number(data, 0, int32_t(data.size()));
+    const struct {
+        uint32_t number;
+        Bytes data;
+    } all[] = {{25, data}, {24, with(data, 67, 4)}, {23, with(data, 12, 'x')}, {22, with(data, 3, uint8_t(data[3] + 1))}};
+    Bytes out(data.size(), 7);
+    const Bytes before = out;
+    for (const auto &one : all) {
+        const Segments parts = cut(one.data, even(one.data.size(), 65519));
+        expect(parts.size() == 255, "255 segments with all the data that they can have");
+        for (const Bytes &row : {in_row(parts), in_row(reversed(parts))}) {
+            expect(merqyduk_join_segments(row.data(), row.size(), out.data(), out.size()) == one.number,
+                   "the most data refused " + std::to_string(one.number));
+            expect(merqyduk_join_segments(row.data(), row.size(), out.data(), out.size() - 1) == 55, "the most data in a byte less");
+            expect(merqyduk_join_segments(row.data(), row.size() - 1, out.data(), out.size()) == 54, "the most data, cut");
+            expect(out == before, "the most data leaves the output unchanged");
+        }
+    }
+}
+
+// ---- segments held against 02 once more, by a joiner that follows its words
+
+struct Joined {
+    uint32_t answer;
+    Bytes data;
+};
+
+Joined joined(const Bytes &row, size_t out_len) {
+    const Bytes front = segment(0, 0, {});
+    std::map<size_t, Bytes> by_sequence;
+    std::vector<size_t> counts;
+    for (size_t at = 0; at < row.size();) {
+        if (row.size() - at < 18) return {54, {}};
+        const size_t length = size_t(row[at + 2]) << 8 | row[at + 3];
+        if (row[at] != 0xff || row[at + 1] != 0xe2 || length < 16 || length > row.size() - at - 2 ||
+            !std::equal(front.begin() + 4, front.begin() + 16, row.begin() + at + 4))
+            return {54, {}};
+        by_sequence[row[at + 16]] = Bytes(row.begin() + at + 18, row.begin() + at + 2 + length);
+        counts.push_back(row[at + 17]);
+        at += 2 + length;
+    }
+    if (counts.empty() || std::count(counts.begin(), counts.end(), counts.size()) != std::ptrdiff_t(counts.size())) return {54, {}};
+    Bytes data;
+    for (size_t sequence = 1; sequence <= counts.size(); sequence++) {
+        if (!by_sequence.count(sequence)) return {54, {}};
+        data.insert(data.end(), by_sequence[sequence].begin(), by_sequence[sequence].end());
+    }
+    if (out_len < data.size()) return {55, {}};
+    merqyduk_plan plan;
+    const uint32_t refusal = merqyduk_read(data.data(), data.size(), &plan, sizeof plan);
+    if (refusal != 0) return {refusal, {}};
+    return {uint32_t(data.size()), data};
+}
+
+// Whether the call answers and writes the same. The answers are counted.
+bool joined_right(const Bytes &row, size_t out_len, std::map<uint32_t, int> &answers) {
+    const Joined expected = joined(row, out_len);
+    Bytes in = row, out(out_len, 7), after = out;
+    std::copy(expected.data.begin(), expected.data.end(), after.begin());
+    answers[expected.answer]++;
+    return merqyduk_join_segments(in.data(), in.size(), out.data(), out.size()) == expected.answer && out == after && in == row;
+}
+
+// Every byte of every front with every value.
+void changed_fronts(const Bytes &f) {
+    std::map<uint32_t, int> answers;
+    bool all_right = true;
+    const Segments row = reversed(cut(f, even(f.size(), f.size() / 3 + 1)));
+    for (size_t which = 0; which < row.size(); which++)
+        for (size_t at = 0; at < 18; at++)
+            for (size_t byte = 0; byte < 256; byte++)
+                all_right = joined_right(in_row(with(row, which, at, byte)), f.size(), answers) && all_right;
+    expect(all_right, "a front with any byte changed");
+    // Each of the 54 bytes of the three fronts has one value of its own.
+    expect(answers[uint32_t(f.size())] == 54 && answers.size() == 2, "none but the unchanged ones are joined");
+}
+
+// Segments by chance: how many, how much data each has, their order, and what is damaged.
+void segments_by_chance(const Bytes &f) {
+    uint64_t state = 1;
+    const auto below = [&](size_t n) {
+        state = state * 6364136223846793005u + 1442695040888963407u;
+        return size_t(state >> 33) % n;
+    };
+    std::map<uint32_t, int> answers;
+    bool all_right = true;
+    for (int n = 0; n < 20000; n++) {
+        std::vector<size_t> sizes;
+        size_t left = f.size();
+        for (size_t more = below(n % 10 == 0 ? 254 : 8); more > 0; more--) {
+            sizes.push_back(below(n % 2 == 0 ? left + 1 : left / 4 + 1));
+            left -= sizes.back();
+        }
+        sizes.push_back(left);
+        Segments parts = cut(f, sizes);
+        for (size_t i = parts.size(); i > 1; i--) std::swap(parts[i - 1], parts[below(i)]);
+        Bytes &some = parts[below(parts.size())];
+        const size_t damage = below(12), at = below(18);
+        if (damage == 0) some[at] = uint8_t(below(256));
+        if (damage == 1) some[16] = uint8_t(below(parts.size() + 2));
+        if (damage == 2) some[2 + below(2)] ^= uint8_t(1 << below(8));
+        if (damage == 3) some.pop_back();
+        if (damage == 4 && some.size() > 18) some.back() ^= 1;
+        if (damage == 5) parts.pop_back();
+        if (damage == 6) parts.push_back(some);
+        const size_t lengths[] = {f.size(), f.size() + below(100), f.size() - 1, below(f.size()), MERQYDUK_MAX_FILE};
+        all_right = joined_right(in_row(parts), lengths[below(5)], answers) && all_right;
+    }
+    expect(all_right, "segments by chance");
+    for (uint32_t answer : {uint32_t(f.size()), 26u, 28u, 54u, 55u})
+        expect(answers[answer] > 20, "segments by chance that are answered " + std::to_string(answer));
+}
+
+// ---- lengths of four gigabytes and a little: none is cut to 32 bits
+
+// Bytes of which a little can be written at the front. The rest takes no memory: it is zero and only to be read.
+class Vast {
+  public:
+    Vast() : front_(65536), size_((size_t(1) << 32) + front_) {
+        bytes_ = static_cast<uint8_t *>(mmap(nullptr, size_, PROT_READ, MAP_PRIVATE | MAP_ANONYMOUS | MAP_NORESERVE, -1, 0));
+        if (bytes_ == MAP_FAILED || mprotect(bytes_, front_, PROT_READ | PROT_WRITE) != 0) {
+            std::perror("mmap");
+            std::exit(2);
+        }
+    }
+    ~Vast() { munmap(bytes_, size_); }
+    Vast(const Vast &) = delete;
+    Vast &operator=(const Vast &) = delete;
+    uint8_t *with(const Bytes &bytes) {
+        std::copy(bytes.begin(), bytes.end(), bytes_);
+        return bytes_;
+    }
+    uint8_t *cleared() { return with(Bytes(front_)); }
+
+  private:
+    size_t front_, size_;
+    uint8_t *bytes_;
+};
+
+void vast_lengths(const Bytes &f) {
+    const size_t more = size_t(1) << 32;
+    Vast vast;
+    const Bytes row = in_row(cut(f, even(f.size(), 100)));
+    Bytes out(6000, 7);
+    const Bytes before = out;
+    expect(merqyduk_write_segments(vast.with(f), more + f.size(), 100, out.data(), out.size()) == 22, "a vast file");
+    expect(merqyduk_join_segments(vast.with(row), more + row.size(), out.data(), out.size()) == 54, "vast segments");
+    expect(out == before, "a vast input leaves the output unchanged");
+    uint8_t *lent = vast.cleared();
+    expect(merqyduk_write_segments(f.data(), f.size(), 100, lent, more + 5) == row.size(), "segments in a vast output");
+    expect(std::equal(row.begin(), row.end(), lent) && lent[row.size()] == 0, "and their bytes");
+    lent = vast.cleared();
+    expect(merqyduk_join_segments(row.data(), row.size(), lent, more + 5) == f.size(), "a file in a vast output");
+    expect(std::equal(f.begin(), f.end(), lent) && lent[f.size()] == 0, "and its bytes");
+}
+
+void segments(const Bytes &srgb, const Bytes &gray, const Bytes &xyb) {
+    put_into_segments("sRGB", srgb);
+    put_into_segments("gray", gray);
+    put_into_segments("XYB", xyb);
+    numbers_of_segments(srgb, gray);
+    // The number of the file comes first, then 53, then 55.
+    expect(merqyduk_write_segments(nullptr, 0, 0, nullptr, 0) == 21, "no file, no size and no output");
+    expect(merqyduk_write_segments(gray.data(), gray.size(), 0, nullptr, 0) == 53, "no size and no output");
+    expect(merqyduk_write_segments(gray.data(), gray.size(), 1, nullptr, 0) == 53, "too many segments and no output");
+    expect(merqyduk_write_segments(gray.data(), gray.size(), 2, nullptr, 0) == 55, "no output");
+
+    good_segments("sRGB", srgb);
+    good_segments("gray", gray);
+    good_segments("XYB", xyb);
+    good_segments("the longest file", with_letters(srgb, 372));
+    for (const Bytes *f : {&srgb, &gray, &xyb}) {
+        bad_segments(*f);
+        too_many_segments(*f);
+        front_of_fifteen(*f);
+        changed_fronts(*f);
+    }
+    segments_by_chance(gray);
+    much_data(srgb, gray, xyb);
+    most_data(srgb);
+    vast_lengths(srgb);
 }
 
 // ---- jobs
@@ -973,6 +1526,7 @@ int main(int argc, char **argv) {
     refuses("intent 2^32 - 1", 43, xyb(0xffffffffu));
 
     bad_files(srgb, gray_d65, xyb_only);
+    segments(srgb, gray_d65, xyb_only);
     good_jobs(srgb);
     bad_jobs();
     typed_texts();

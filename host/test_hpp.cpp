@@ -198,18 +198,81 @@ void files() {
     expect(!find(profile.data(), profile.size() - 1, "kTRC"), "an element of a cut profile");
 }
 
+// Both ways to call, lent and into a vector, answer and write what the C call does.
+void puts(const std::uint8_t *file, std::size_t file_len, std::size_t size) {
+    const std::string name = std::to_string(file_len) + " bytes in segments of " + std::to_string(size);
+    std::uint8_t out[MERQYDUK_MAX_SEGMENTS_LENGTH], lent[MERQYDUK_MAX_SEGMENTS_LENGTH];
+    const std::uint32_t answer = merqyduk_write_segments(file, file_len, size, out, sizeof out);
+    const std::size_t length = answer < MERQYDUK_MIN_PROFILE ? 0 : answer;
+    const Answer into_lent = write_segments(file, file_len, size, lent, sizeof lent);
+    expect(bool(into_lent) == (length > 0) && into_lent.length() == length &&
+               into_lent.refusal() == (length > 0 ? 0 : answer),
+           name + ": its answer");
+    expect(std::memcmp(lent, out, length) == 0, name + ": its bytes");
+    std::vector<std::uint8_t> vector(3, 7);
+    const Answer into_vector = write_segments(file, file_len, size, vector);
+    expect(into_vector.length() == length && into_vector.refusal() == into_lent.refusal(), name + " into a vector");
+    expect(length > 0 ? vector == std::vector<std::uint8_t>(out, out + length) : vector == std::vector<std::uint8_t>(3, 7),
+           name + ": the vector");
+    expect(std::string(into_lent.text()) == merqyduk_refusal_text(answer), name + ": its text");
+    if (length == 0) return;
+    expect(write_segments(file, file_len, size, lent, length - 1).refusal() == MERQYDUK_REFUSED_SEGMENT_OUTPUT,
+           name + " in a byte less");
+    std::uint8_t back[MERQYDUK_MAX_FILE];
+    expect(join_segments(out, length, back, sizeof back).length() == file_len, name + " joined");
+    expect(std::memcmp(back, file, file_len) == 0, name + " has the file's bytes");
+    expect(join_segments(out, length, vector).length() == file_len, name + " joined into a vector");
+    expect(vector == std::vector<std::uint8_t>(file, file + file_len), name + ": the vector of the file");
+    expect(join_segments(out, length, back, file_len - 1).refusal() == MERQYDUK_REFUSED_SEGMENT_OUTPUT,
+           name + " joined in a byte less");
+}
+
+// What is refused when it is joined leaves the vector unchanged. More data than a file has is the reader's matter, and not 55.
+void refused_join(const std::string &name, const std::vector<std::uint8_t> &row, std::uint32_t number) {
+    std::vector<std::uint8_t> vector(3, 7);
+    const Answer answer = join_segments(row.data(), row.size(), vector);
+    expect(!answer && answer.length() == 0 && answer.refusal() == number, name + " refused");
+    expect(vector == std::vector<std::uint8_t>(3, 7), name + ": the vector is unchanged");
+    expect(std::string(answer.text()) == merqyduk_refusal_text(number), name + ": the text of its refusal");
+}
+
+void segments() {
+    const Profile profiles[] = {write(Encoding::srgb()), write(Encoding::xyb()),
+                                write(Encoding::gray(White::d65(), Curve::srgb(), Intent::relative))};
+    for (const Profile &profile : profiles) {
+        for (std::size_t size : {std::size_t(0), std::size_t(1), std::size_t(3), profile.size() / 3, profile.size(),
+                                 std::size_t(MERQYDUK_MAX_SEGMENT_DATA), std::size_t(65520), SIZE_MAX})
+            puts(profile.data(), profile.size(), size);
+        puts(profile.data(), profile.size() - 1, 100);
+    }
+    puts(nullptr, 0, 0);
+    // One segment with 3,000 bytes of data: a header and size field of sRGB's, and zeros.
+    std::vector<std::uint8_t> row;
+    write_segments(profiles[0].data(), profiles[0].size(), MERQYDUK_MAX_SEGMENT_DATA, row);
+    row.resize(MERQYDUK_SEGMENT_FRONT + 3000);
+    row[2] = 3016 >> 8;
+    row[3] = 3016 & 255;
+    refused_join("long data", row, MERQYDUK_REFUSED_SIZE_FIELD);
+    row[MERQYDUK_SEGMENT_FRONT + 2] = 3000 >> 8;
+    row[MERQYDUK_SEGMENT_FRONT + 3] = 3000 & 255;
+    refused_join("long data that says so", row, MERQYDUK_REFUSED_TAG_TABLE);
+    row.pop_back();
+    refused_join("a cut segment", row, MERQYDUK_REFUSED_SEGMENTS);
+    refused_join("no segment", {}, MERQYDUK_REFUSED_SEGMENTS);
+}
+
 // The refusals of 01 and 02 have texts of their own, and no other number has one.
 void texts() {
     const std::string other = merqyduk_refusal_text(0xffffffffu);
     std::set<std::string> seen{other};
     int named = 0;
     for (std::uint32_t n = 0; n <= 1300; n++) {
-        const bool known = n <= 9 || (n >= 21 && n <= 28) || (n >= 41 && n <= 43) || n == 51 || n == 52;
+        const bool known = n <= 9 || (n >= 21 && n <= 28) || (n >= 41 && n <= 43) || (n >= 51 && n <= 55);
         const std::string text = merqyduk_refusal_text(n);
         expect(known == (text != other), "the text of " + std::to_string(n));
         if (known && seen.insert(text).second) named++;
     }
-    expect(named == 23, "texts that differ");
+    expect(named == 26, "texts that differ");
     expect(std::to_string(MERQYDUK_VERSION_MAJOR) + "." + std::to_string(MERQYDUK_VERSION_MINOR) + "." +
                    std::to_string(MERQYDUK_VERSION_PATCH) ==
                MERQYDUK_VERSION_STRING,
@@ -223,6 +286,7 @@ int main() {
     texts_of_encodings();
     jobs();
     files();
+    segments();
     texts();
     std::printf("merqyduk.hpp: %d of %d\n", tried - failed, tried);
     return failed == 0 ? 0 : 1;

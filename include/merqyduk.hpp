@@ -98,16 +98,16 @@ struct Encoding {
 
 // ---- what a call answers
 
-// The length of a profile, or a refusal.
+// The length of what was written, a profile or segments, or a refusal.
 class Answer {
   public:
     explicit Answer(std::uint32_t number) noexcept : number_(number) {}
 
-    // Whether a profile was written.
+    // Whether something was written: nothing is shorter than the shortest profile.
     explicit operator bool() const noexcept { return number_ >= MERQYDUK_MIN_PROFILE; }
     // 0 where nothing was written.
     std::size_t length() const noexcept { return *this ? number_ : 0; }
-    // One of MERQYDUK_REFUSED_..., or 0 where the job has no such entry; 0 too where a profile was written.
+    // One of MERQYDUK_REFUSED_..., or 0 where the job has no such entry; 0 too where something was written.
     std::uint32_t refusal() const noexcept { return *this ? 0 : number_; }
     // What the refusal means.
     const char *text() const noexcept { return merqyduk_refusal_text(number_); }
@@ -308,6 +308,38 @@ inline Element find(const std::uint8_t *file, std::size_t file_len, const char (
     for (int i = 0; i < 4; i++) signature = signature << 8 | static_cast<unsigned char>(tag[i]);
     const std::uint32_t size = merqyduk_find(file, file_len, signature, &offset);
     return size == 0 ? Element{file, 0} : Element{file + offset, size};
+}
+
+// ---- a profile in APP2 segments of a JPEG file
+
+// Puts a file into segments of so many bytes of data, into an output that the caller lends.
+inline Answer write_segments(const std::uint8_t *file, std::size_t file_len, std::size_t size, std::uint8_t *out,
+                             std::size_t out_len) noexcept {
+    return Answer(merqyduk_write_segments(file, file_len, size, out, out_len));
+}
+
+// The vector becomes the segments; it is unchanged where the file or the size is refused.
+inline Answer write_segments(const std::uint8_t *file, std::size_t file_len, std::size_t size,
+                             std::vector<std::uint8_t> &out) {
+    std::vector<std::uint8_t> lent(MERQYDUK_MAX_SEGMENTS_LENGTH);
+    const Answer answer = write_segments(file, file_len, size, lent.data(), lent.size());
+    if (answer) out.assign(lent.data(), lent.data() + answer.length());
+    return answer;
+}
+
+// Joins segments, in any order, to the file that they hold, into an output that the caller lends.
+inline Answer join_segments(const std::uint8_t *segments, std::size_t segments_len, std::uint8_t *out,
+                            std::size_t out_len) noexcept {
+    return Answer(merqyduk_join_segments(segments, segments_len, out, out_len));
+}
+
+// The vector becomes the file; it is unchanged where the segments are refused. As much is lent as the segments have, so that
+// data of any length has the reader's number and not MERQYDUK_REFUSED_SEGMENT_OUTPUT.
+inline Answer join_segments(const std::uint8_t *segments, std::size_t segments_len, std::vector<std::uint8_t> &out) {
+    std::vector<std::uint8_t> lent(segments_len);
+    const Answer answer = join_segments(segments, segments_len, lent.data(), lent.size());
+    if (answer) out.assign(lent.data(), lent.data() + answer.length());
+    return answer;
 }
 
 } // namespace merqyduk

@@ -1,14 +1,16 @@
 //! Tries the port against the original on many inputs.
 //!
-//! Each leaf, `validate_icc_matrix`, the writer, the calls on jobs, the reader, or the reading of
-//! typed texts are tried on COUNT inputs: the boundary cases first, then random ones that follow
-//! from the seed. Prints a line for each and fails if one answer differs. `bench` times the writer
-//! beside the original, and typed texts.
+//! Each leaf, `validate_icc_matrix`, the writer, the calls on jobs, the reader, the reading of typed
+//! texts, or the calls on segments are tried on COUNT inputs: the boundary cases first, then random
+//! ones that follow from the seed. Prints a line for each and fails if one answer differs. `bench`
+//! times the writer beside the original, and typed texts.
 
 mod jobs;
+mod lent;
 mod port;
 mod progress;
 mod reader;
+mod segments;
 mod typed;
 
 use std::fmt::Debug;
@@ -21,7 +23,7 @@ use judge::{answer, bench, leaves};
 use progress::Progress;
 
 const USAGE: &str = "\
-compare leaves|validate|writer|jobs|reader|typed COUNT [SEED]
+compare leaves|validate|writer|jobs|reader|typed|segments COUNT [SEED]
 compare profiles FOLDER
 compare floats
 compare bench";
@@ -325,6 +327,7 @@ impl Asked {
             ("jobs", _) => jobs::jobs,
             ("reader", _) => reader::reader,
             ("typed", _) => typed::typed,
+            ("segments", _) => segments::segments,
             _ => return Err(format!("not known: {}", words.join(" "))),
         };
         let (count, seed) = match rest {

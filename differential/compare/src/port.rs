@@ -81,6 +81,19 @@ mod entries {
             record: *mut u8,
             record_len: usize,
         ) -> u32;
+        pub fn merqyduk_write_segments(
+            file: *const u8,
+            file_len: usize,
+            size: usize,
+            out: *mut u8,
+            out_len: usize,
+        ) -> u32;
+        pub fn merqyduk_join_segments(
+            segments: *const u8,
+            segments_len: usize,
+            out: *mut u8,
+            out_len: usize,
+        ) -> u32;
         pub fn merqyduk_job(job: *const u8, job_len: usize, entries: *mut u32) -> u32;
         pub fn merqyduk_job_profile(
             job: *const u8,
@@ -437,17 +450,37 @@ pub fn length(encoding: &Encoding, capacity: usize) -> u32 {
     }
 }
 
+/// Where bytes stand; of no bytes, a null pointer.
+fn place(bytes: &[u8]) -> *const u8 {
+    match bytes {
+        [] => std::ptr::null(),
+        _ => bytes.as_ptr(),
+    }
+}
+
+fn place_mut(bytes: &mut [u8]) -> *mut u8 {
+    match bytes {
+        [] => std::ptr::null_mut(),
+        _ => bytes.as_mut_ptr(),
+    }
+}
+
 /// A text read into a record: 0, or a refusal. Of no bytes, a null pointer is passed.
 pub fn parse_description(text: &[u8], record: &mut [u8]) -> u32 {
-    let text_at = match text {
-        [] => std::ptr::null(),
-        _ => text.as_ptr(),
-    };
-    let record_at = match record {
-        [] => std::ptr::null_mut(),
-        _ => record.as_mut_ptr(),
-    };
-    unsafe { entries::merqyduk_parse_description(text_at, text.len(), record_at, record.len()) }
+    let (at, len) = (place_mut(record), record.len());
+    unsafe { entries::merqyduk_parse_description(place(text), text.len(), at, len) }
+}
+
+/// A file put into segments: their length, or a refusal. Of no bytes, a null pointer is passed.
+pub fn write_segments(file: &[u8], size: usize, out: &mut [u8]) -> u32 {
+    let (at, len) = (place_mut(out), out.len());
+    unsafe { entries::merqyduk_write_segments(place(file), file.len(), size, at, len) }
+}
+
+/// Segments joined: the file's length, or a refusal. Of no bytes, a null pointer is passed.
+pub fn join_segments(segments: &[u8], out: &mut [u8]) -> u32 {
+    let (at, len) = (place_mut(out), out.len());
+    unsafe { entries::merqyduk_join_segments(place(segments), segments.len(), at, len) }
 }
 
 /// Whether the job is good: 0 and the number of entries, or a refusal and the number left as it was.

@@ -12,4 +12,5 @@ pub mod leaves;
 pub mod list;
 pub mod profiles;
 pub mod reader;
+pub mod segments;
 pub mod typed;

@@ -12,6 +12,8 @@ pub mod plans;
 pub mod profile_cases;
 pub mod random;
 pub mod records;
+pub mod segment_faults;
+pub mod segments;
 pub mod texts;
 
 use std::collections::HashSet;
