@@ -28,9 +28,9 @@
  * Stack. A call takes at most MERQYDUK_STACK bytes. Measured by host/stack.c, with arguments and memcpy:
  * merqyduk_write_gray 2,200, merqyduk_write_rgb 2,232, merqyduk_write_xyb 2,200, merqyduk_length_gray 928,
  * merqyduk_length_rgb 1,136, merqyduk_length_xyb 928, merqyduk_job 296, merqyduk_job_profile 2,360,
- * merqyduk_read 4,200, merqyduk_find 4,264, merqyduk_parse_description 712. Not counted is the dynamic linker,
- * which takes about 2,600 more where a program's first memcpy is looked up in the call; -Wl,-z,now has it looked up
- * before.
+ * merqyduk_read 4,200, merqyduk_find 4,264, merqyduk_parse_description 712, merqyduk_write_segments 4,264,
+ * merqyduk_join_segments 6,680. Not counted is the dynamic linker, which takes about 2,600 more where a program's
+ * first memcpy is looked up in the call; -Wl,-z,now has it looked up before.
  *
  * Platform: Linux on any x86-64 processor. The calls go by the floating-point environment that a program
  * starts with: rounding to nearest, exceptions masked, subnormal numbers kept. A program linked with
@@ -383,21 +383,23 @@ uint32_t merqyduk_find(const uint8_t *file, size_t file_len, uint32_t signature,
 /* ---- a profile in APP2 segments of a JPEG file
  *
  * A segment is FF E2, a length of two bytes that counts itself and all that follows it, the letters ICC_PROFILE and a zero
- * byte, a sequence number from 1, the count of segments, and data. In a JPEG file segments stand after its first two bytes,
- * FF D8, and other segments may stand before and between them; here they follow one another with nothing between. */
+ * byte, a sequence number, the count of segments, and data. Segments are complete where each count is their number and the
+ * sequence numbers are 1 to that, each once. In a JPEG file they stand after its first two bytes, FF D8, and other segments
+ * may stand before and between them; here they follow one another with nothing before, between or after. */
 
-/* Puts a file into segments of `size` bytes of data; the last alone may have fewer. Answers their length, which is
- * file_len + MERQYDUK_SEGMENT_FRONT bytes for each, and they stand at the front of the output, in order; the rest of the
- * output is unchanged. Or it answers, tested in this order, what merqyduk_read refuses the file by, 21 to 28; 53 where size
- * is not 1 to MERQYDUK_MAX_SEGMENT_DATA or the file needs more than MERQYDUK_MAX_SEGMENTS segments; 55 where the output is
- * too short; and all of the output is unchanged. With a size of MERQYDUK_MAX_SEGMENT_DATA there is one segment. */
+/* Puts a file into segments of `size` bytes of data; the last alone may have fewer. Answers the length of all, which is
+ * file_len and MERQYDUK_SEGMENT_FRONT for each segment, and they stand at the front of the output by their numbers; the rest
+ * of the output is unchanged. Or it answers, tested in this order, what merqyduk_read refuses the file by, 21 to 28; 53
+ * where size is not 1 to MERQYDUK_MAX_SEGMENT_DATA or the file needs more than MERQYDUK_MAX_SEGMENTS segments; 55 where the
+ * output is shorter than the segments; and all of the output is unchanged. A size of MERQYDUK_MAX_SEGMENT_DATA gives one
+ * segment. */
 uint32_t merqyduk_write_segments(const uint8_t *file, size_t file_len, size_t size, uint8_t *out, size_t out_len);
 
-/* Joins segments, in any order and of any size of data, none included, to the file that they hold. Answers the file's length,
- * and it stands at the front of the output; the rest of the output is unchanged. Or it answers, tested in this order, 54
- * where there is no segment or the bytes are not complete segments and nothing else; 55 where the output is shorter than
- * their data; 21 to 28 where merqyduk_read refuses the data; and all of the output is unchanged. An output of
- * MERQYDUK_MAX_FILE bytes is enough for every file. */
+/* Joins segments to the file that they hold, whatever their order and the size of their data, which may be 0. Answers the
+ * file's length, and the file stands at the front of the output; the rest of the output is unchanged. Or it answers, tested
+ * in this order, 54 where there is no segment or the bytes are not complete segments and nothing else; 55 where the output
+ * is shorter than their data; 21 to 28 where merqyduk_read refuses the data; and all of the output is unchanged. An output
+ * of MERQYDUK_MAX_FILE bytes is enough for every file; more data than that is no file, and is then answered 55. */
 uint32_t merqyduk_join_segments(const uint8_t *segments, size_t segments_len, uint8_t *out, size_t out_len);
 
 #ifdef __cplusplus

@@ -8,3 +8,5 @@ pub mod Demand3
 pub mod DryCall
 pub mod TypedTextLaws
 pub mod TypedText
+pub mod SegmentsInCLaws
+pub mod SegmentsInC
