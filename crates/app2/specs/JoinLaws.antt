@@ -1,11 +1,11 @@
 -- Segments joined: what was cut and numbered is complete and joins to the file, and the order of the segments does not matter. Assumes nothing.
 use Prim.Native.Nat.{ℕ, zero, suc, _+_, _≤_, _<_}
-use mathlib.Core.Path.{_≡_, refl, ap, ap₂, _∙_}
+use mathlib.Core.Path.{_≡_, refl, ap, ap₂, sym, _∙_}
 use mathlib.Core.Bool.{Bool, true, false, _&&_, cond}
-use mathlib.Core.List.{List, [], _∷_, _++_}
+use mathlib.Core.List.{List, [], _∷_}
 use native.Mathlib.Omega.{arith}
 use native.Mathlib.Nat.{zero-add}
-use borrow.Author.Tests.{le-leb, eq-eqb, ne-eqb, eqb-true}
+use borrow.Author.Tests.{le-leb, leb-true, eq-eqb, ne-eqb, eqb-true}
 use lib.Dec.{leb, eqb}
 use lib.ListN.{length}
 use Rattle.buffer.specs.BoolLaws.{both-left, both-right}
@@ -53,12 +53,12 @@ once-numbered c i (p ∷ ps) =
     rw (eq-eqb i i refl, none-below c i (suc i) ps (omega arith), once-past (length ps) (suc i) (record { sequence = i; count = c; chunk = p }) (numbered c (suc i) ps) (omega arith))
     (once-numbered c (suc i) ps)
 
-from-numbered : (c i : ℕ) (ps : List (List ℕ)) → chunksFrom (length ps) i (numbered c i ps) ≡ join ps
-unfolding numbered chunksFrom chunkOf join
+from-numbered : (c i : ℕ) (ps : List (List ℕ)) → chunksFrom (length ps) i (numbered c i ps) ≡ ps
+unfolding numbered chunksFrom chunkOf
 from-numbered c i [] = refl
 from-numbered c i (p ∷ ps) =
     rw (eq-eqb i i refl, from-past (length ps) (suc i) (record { sequence = i; count = c; chunk = p }) (numbered c (suc i) ps) (omega arith))
-    (ap (λ (l : List ℕ). p ++ l) (from-numbered c (suc i) ps))
+    (ap (λ (qs : List (List ℕ)). p ∷ qs) (from-numbered c (suc i) ps))
 
 -- chunks numbered from 1 on, with their number as the count, are complete
 pub complete-numbered : (ps : List (List ℕ)) → 1 ≤ length ps → complete (numbered (length ps) 1 ps) ≡ true
@@ -69,7 +69,7 @@ complete-numbered ps h =
 -- and join to the chunks one after another
 pub joined-numbered : (c : ℕ) (ps : List (List ℕ)) → joined (numbered c 1 ps) ≡ join ps
 unfolding joined
-joined-numbered c ps = rw (length-numbered c 1 ps) (from-numbered c 1 ps)
+joined-numbered c ps = rw (length-numbered c 1 ps) (ap join (from-numbered c 1 ps))
 
 -- ---- in any order
 
@@ -140,7 +140,7 @@ from-same zero i p e = refl
 from-same (suc k) i {one} {two} p e =
     let here : eqb (times i one) 1 ≡ true = both-left (eqb (times i one) 1) (eachOnce k (suc i) one) e in
     let onward : eachOnce k (suc i) one ≡ true = both-right (eqb (times i one) 1) (eachOnce k (suc i) one) e in
-    ap₂ (λ (x y : List ℕ). x ++ y) (chunk-same i p (omega (arith, eqb-true (times i one) 1 here))) (from-same k (suc i) p onward)
+    ap₂ (λ (x : List ℕ) (xs : List (List ℕ)). x ∷ xs) (chunk-same i p (omega (arith, eqb-true (times i one) 1 here))) (from-same k (suc i) p onward)
 
 -- complete segments join to the same bytes in any order
 pub joined-same : {one two : List Segment} → Permutation one two → complete one ≡ true → joined one ≡ joined two
@@ -150,4 +150,107 @@ joined-same {one} {two} p e =
     both-right (counts (length one) one) (eachOnce (length one) 1 one)
     (both-right (leb 1 (length one)) (counts (length one) one && eachOnce (length one) 1 one) e)
     in
-    from-same (length one) 1 p once ∙ ap (λ (k : ℕ). chunksFrom k 1 two) (length-same p)
+    ap join (from-same (length one) 1 p once ∙ ap (λ (k : ℕ). chunksFrom k 1 two) (length-same p))
+
+-- ---- complete segments are chunks numbered from 1 on, in some order
+
+pub same-order : (ss : List Segment) → Permutation ss ss
+same-order [] = none
+same-order (s ∷ ss) = same-first s (same-order ss)
+
+-- the segment with the sequence number i, in front of the others
+record Taken (i : ℕ) (ss : List Segment) : Type 0 where
+  one : Segment
+  others : List Segment
+  number-is : one .sequence ≡ i
+  order : Permutation (one ∷ others) ss
+
+taken : (i : ℕ) (ss : List Segment) → 1 ≤ times i ss → Taken i ss
+unfolding times
+taken i [] h = absurd (omega arith)
+taken i (s ∷ ss) h = go (eqb (s .sequence) i) refl (taken i ss) h
+  where
+    go : (t : Bool) → eqb (s .sequence) i ≡ t → (1 ≤ times i ss → Taken i ss) → 1 ≤ cond t 1 0 + times i ss → Taken i (s ∷ ss)
+    go true e later h = record { one = s; others = ss; number-is = eqb-true (s .sequence) i e; order = same-order (s ∷ ss) }
+    go false e later h =
+        let t = later (omega arith) in
+        record { one = t .one; others = s ∷ t .others; number-is = t .number-is; order = then (swap (t .one) s (t .others)) (same-first s (t .order)) }
+
+no-member : (ss : List Segment) → length ss ≡ 0 → ss ≡ []
+no-member [] e = refl
+no-member (s ∷ ss) e = absurd (omega arith)
+
+segment-is : (s : Segment) {i c : ℕ} {l : List ℕ} → s .sequence ≡ i → s .count ≡ c → l ≡ s .chunk → record { sequence = i; count = c; chunk = l } ≡ s
+segment-is s {l = l} p q r =
+    ap₂ (λ (x y : ℕ). record { sequence = x; count = y; chunk = l }) (sym p) (sym q)
+    ∙ ap (λ (m : List ℕ). record { sequence = s .sequence; count = s .count; chunk = m }) r
+
+renamed : {a b : Segment} {l m ss : List Segment} → a ≡ b → l ≡ m → Permutation (b ∷ m) ss → Permutation (a ∷ l) ss
+renamed e f p = rw (e, f) p
+
+-- the first number's segment, and what is known of the others
+module _ (c k i : ℕ) (ss : List Segment) (n : length ss ≡ suc k) (cs : counts c ss ≡ true) (once : times i ss ≡ 1) (later : eachOnce k (suc i) ss ≡ true) where
+  abbrev first : Taken i ss
+  first = taken i ss (omega arith)
+
+  abbrev one : Segment
+  one = first .one
+
+  abbrev others : List Segment
+  others = first .others
+
+  length-others : length others ≡ k
+  length-others = omega (arith, length-same (first .order))
+
+  counts-both : (eqb (one .count) c && counts c others) ≡ true
+  unfolding counts
+  counts-both = counts-same c (first .order) ∙ cs
+
+  once-both : eachOnce k (suc i) (one ∷ others) ≡ true
+  once-both = once-same k (suc i) (first .order) ∙ later
+
+  below : one .sequence < suc i
+  below = omega (arith, first .number-is)
+
+  once-others : eachOnce k (suc i) others ≡ true
+  once-others = sym (once-past k (suc i) one others below) ∙ once-both
+
+  rest-is : chunksFrom k (suc i) ss ≡ chunksFrom k (suc i) others
+  rest-is = sym (from-same k (suc i) (first .order) once-both) ∙ from-past k (suc i) one others below
+
+  chunk-is : chunkOf i ss ≡ one .chunk
+  unfolding chunkOf
+  chunk-is =
+      sym (chunk-same i (first .order) (omega (arith, times-same i (first .order))))
+      ∙ rw (eq-eqb (one .sequence) i (first .number-is))
+
+  one-is : record { sequence = i; count = c; chunk = chunkOf i ss } ≡ one
+  one-is = segment-is one (first .number-is) (eqb-true (one .count) c (both-left (eqb (one .count) c) (counts c others) counts-both)) chunk-is
+
+  in-front : Permutation (numbered c (suc i) (chunksFrom k (suc i) others)) others
+      → Permutation (record { sequence = i; count = c; chunk = chunkOf i ss } ∷ numbered c (suc i) (chunksFrom k (suc i) ss)) ss
+  in-front p = renamed one-is (ap (numbered c (suc i)) rest-is) (then (same-first one p) (first .order))
+
+numbered-order : (c k i : ℕ) (ss : List Segment) → length ss ≡ k → counts c ss ≡ true → eachOnce k i ss ≡ true
+    → Permutation (numbered c i (chunksFrom k i ss)) ss
+unfolding chunksFrom numbered eachOnce
+numbered-order c zero i ss n cs e = rw (no-member ss n) none
+numbered-order c (suc k) i ss n cs e =
+    let once = eqb-true (times i ss) 1 (both-left (eqb (times i ss) 1) (eachOnce k (suc i) ss) e) in
+    let later = both-right (eqb (times i ss) 1) (eachOnce k (suc i) ss) e in
+    let counted = both-right (eqb (one c k i ss n cs once later .count) c) (counts c (others c k i ss n cs once later)) (counts-both c k i ss n cs once later) in
+    in-front c k i ss n cs once later
+    (numbered-order c k (suc i) (others c k i ss n cs once later) (length-others c k i ss n cs once later) counted (once-others c k i ss n cs once later))
+
+pub complete-order : (ss : List Segment) → complete ss ≡ true → (1 ≤ length ss) × Permutation (numbered (length ss) 1 (chunksFrom (length ss) 1 ss)) ss
+unfolding complete
+complete-order ss e =
+    let on = both-right (leb 1 (length ss)) (counts (length ss) ss && eachOnce (length ss) 1 ss) e in (
+      leb-true 1 (length ss) (both-left (leb 1 (length ss)) _ e),
+      numbered-order (length ss) (length ss) 1 ss refl (both-left (counts (length ss) ss) _ on) (both-right (counts (length ss) ss) _ on),
+    )
+
+pub length-from : (k i : ℕ) (ss : List Segment) → length (chunksFrom k i ss) ≡ k
+unfolding chunksFrom
+length-from zero i ss = refl
+length-from (suc k) i ss = ap suc (length-from k (suc i) ss)

@@ -1,12 +1,13 @@
 -- Segments joined (02, order 4): the segments that a buffer is, which of them are complete, and their data in order of sequence number. Assumes nothing.
 use Prim.Native.Nat.{ℕ, zero, suc, _+_, _-_}
 use mathlib.Core.Bool.{Bool, true, _&&_, cond}
-use mathlib.Core.List.{List, [], _∷_, _++_}
+use mathlib.Core.List.{List, [], _∷_}
 use mathlib.Core.Option.{Option, none, some}
 use lib.Dec.{leb, eqb}
 use lib.ListN.{length, take, drop, getD}
 use Rattle.buffer.specs.Bytes.{same}
 use Rattle.words.specs.Words.{word16}
+use Rattle.profile.specs.TagTypes.{join}
 use Rattle.app2.specs.Segments.{Segment, marker, name}
 
 -- ---- the segments of a buffer
@@ -70,11 +71,11 @@ unfoldable pub chunkOf : ℕ → List Segment → List ℕ
 chunkOf i [] = []
 chunkOf i (s ∷ ss) = cond (eqb (s .sequence) i) (s .chunk) (chunkOf i ss)
 
--- the data of the k sequence numbers from i on
-unfoldable pub chunksFrom : ℕ → ℕ → List Segment → List ℕ
+-- the data of the k sequence numbers from i on, one by one
+unfoldable pub chunksFrom : ℕ → ℕ → List Segment → List (List ℕ)
 chunksFrom zero i ss = []
-chunksFrom (suc k) i ss = chunkOf i ss ++ chunksFrom k (suc i) ss
+chunksFrom (suc k) i ss = chunkOf i ss ∷ chunksFrom k (suc i) ss
 
 -- the data in order of sequence number
 unfoldable pub joined : List Segment → List ℕ
-joined ss = chunksFrom (length ss) 1 ss
+joined ss = join (chunksFrom (length ss) 1 ss)

@@ -18,13 +18,14 @@ use Rattle.reader_spec.specs.Read.{read}
 use Rattle.reader_spec.specs.Accepts.{accepted-owned}
 use Rattle.reader_spec.specs.FitsLaws.{Bytes}
 use Rattle.app2.specs.Segments.{Segment, bytes, cut, numbered, segments}
-use Rattle.app2.specs.Joining.{parse, complete, joined}
+use Rattle.app2.specs.Joining.{parse, complete, chunksFrom, joined}
 use Rattle.app2.specs.App2.{acceptedFile, maxData, fitting, sizedSegments, writtenSegments, joinedFile}
 use Rattle.app2.specs.Permutation.{Permutation}
 use Rattle.app2.specs.CutLaws.{Cut, cut-join, cut-cut}
 use Rattle.app2.specs.ParseLaws.{Fits, Parsed, parse-exactly as parsed-exactly, bytes-unique}
+use Rattle.app2.specs.JoinLaws.{same-order, complete-order, length-from}
 use Rattle.app2.specs.ChecksLaws.{Named, named-few, accepted-of, accepted-is, sized-is, sized-of, sized-not, complete-is, fitting-of, fitting-is, fitting-refused}
-use Rattle.app2.specs.SegmentsLaws.{Short, any-complete, any-joined, cut-short, cut-some, same-order, length-segments}
+use Rattle.app2.specs.SegmentsLaws.{Short, order-short, any-complete, any-joined, cut-short, cut-some, length-segments}
 
 -- ---- the cut
 
@@ -113,6 +114,47 @@ joined-is b room l e =
       plan = file .plan;
       read-is = ap read (sym (file .same)) ∙ file .read-is;
     }
+
+-- exactly what joining accepts: data of any sizes, numbered from 1 on, its segments in any order, and the reader accepts the data one after another
+pub record Segmented (b : List ℕ) (room : ℕ) (l : List ℕ) : Type 0 where
+  pub chunks : List (List ℕ)
+  pub some-one : 1 ≤ length chunks
+  pub short : All Short chunks
+  pub found : List Segment
+  pub order : Permutation (numbered (length chunks) 1 chunks) found
+  pub bytes-are : bytes found ≡ b
+  pub data-is : join chunks ≡ l
+  pub fits : length l ≤ room
+  pub plan : Plan
+  pub read-is : read l ≡ accepted plan
+
+segmented : (b : List ℕ) (room : ℕ) (l : List ℕ) → Bytes b → Joined b room l → Segmented b room l
+unfolding joined
+segmented b room l bs j =
+    let parts = parsed-exactly b bs (j .found) .0 (j .parsed) in
+    let whole = complete-order (j .found) (j .complete) in
+    let many = length-from (length (j .found)) 1 (j .found) in
+    record {
+      chunks = chunksFrom (length (j .found)) 1 (j .found);
+      some-one = omega (arith, whole .0, many);
+      short = order-short _ _ _ (whole .1) (parts .fit);
+      found = j .found;
+      order = rw many (whole .1);
+      bytes-are = parts .bytes-are;
+      data-is = j .data-is;
+      fits = j .fits;
+      plan = j .plan;
+      read-is = j .read-is;
+    }
+
+pub joins-exactly : (b : List ℕ) → Bytes b → (room : ℕ) (l : List ℕ) → (joinedFile b room ≡ is l) ↔ Segmented b room l
+joins-exactly b bs room l = (λ e. segmented b room l bs (joined-is b room l e), from)
+  where
+    from : Segmented b room l → joinedFile b room ≡ is l
+    from s =
+        ap (λ (x : List ℕ). joinedFile x room) (sym (s .bytes-are))
+        ∙ joins-any (s .chunks) (s .some-one) (s .short) (s .found) (s .order) room (omega (arith, s .fits, ap length (s .data-is)))
+        ∙ ap acceptedFile (s .data-is) ∙ accepted-of l (s .read-is)
 
 -- ---- 53
 

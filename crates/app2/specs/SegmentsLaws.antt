@@ -36,6 +36,21 @@ all-same (same-first a p) (more h hs) = more h (all-same p hs)
 all-same (swap a b l) (more h (more k hs)) = more k (more h hs)
 all-same (then p q) hs = all-same q (all-same p hs)
 
+turned : {one two : List Segment} → Permutation one two → Permutation two one
+turned no-member = no-member
+turned (same-first a p) = same-first a (turned p)
+turned (swap a b l) = swap b a l
+turned (then p q) = then (turned q) (turned p)
+
+fit-numbered : (c i : ℕ) (ps : List (List ℕ)) → All Fits (numbered c i ps) → All Short ps
+unfolding numbered
+fit-numbered c i [] h = none
+fit-numbered c i (p ∷ ps) (more h hs) = more (h .short) (fit-numbered c (suc i) ps hs)
+
+-- chunks whose segments, in any order, fit are short
+pub order-short : (c i : ℕ) (ps : List (List ℕ)) {ss : List Segment} → Permutation (numbered c i ps) ss → All Fits ss → All Short ps
+order-short c i ps order h = fit-numbered c i ps (all-same (turned order) h)
+
 module _ (ps : List (List ℕ)) (some-one : 1 ≤ length ps) (short : All Short ps) (ss : List Segment)
     (order : Permutation (numbered (length ps) 1 ps) ss) where
   -- the segments that their bytes are
@@ -61,10 +76,6 @@ cut-some n f low some-byte = go (cut-cut n low f some-byte)
     go : {ps : List (List ℕ)} → Cut n ps → 1 ≤ length ps
     go (Cut.last a b) = omega arith
     go (Cut.whole e c) = omega arith
-
-pub same-order : (ss : List Segment) → Permutation ss ss
-same-order [] = no-member
-same-order (s ∷ ss) = same-first s (same-order ss)
 
 -- ---- how long they are
 

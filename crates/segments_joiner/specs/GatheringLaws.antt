@@ -12,6 +12,7 @@ use Rattle.buffer.specs.Puts.{PutsText}
 use Rattle.buffer.specs.PutsLaws as PutsLaws
 use Rattle.buffer.specs.Checked.{is}
 use Rattle.words.specs.Words.{word16}
+use Rattle.profile.specs.TagTypes.{join}
 use Rattle.app2.specs.Segments.{Segment}
 use Rattle.app2.specs.App2.{completeSegments}
 use Rattle.app2.specs.Joining.{chunkOf, chunksFrom, joined}
@@ -27,17 +28,17 @@ data-joined b e = rw e
 module _ (b places : List ℕ) (n : ℕ) (w : Found b places n) where
   -- what is left from the sequence number i on
   abbrev left : ℕ → List ℕ
-  left i = chunksFrom (n + 1 - i) i (w .segments)
+  left i = join (chunksFrom (n + 1 - i) i (w .segments))
 
   at-first : left 1 ≡ dataOf b
   unfolding joined
   at-first =
       let all : n + 1 - 1 ≡ length (w .segments) = omega (arith, w .many) in
-      ap (λ (k : ℕ). chunksFrom k 1 (w .segments)) all ∙ data-joined b (w .are)
+      ap (λ (k : ℕ). join (chunksFrom k 1 (w .segments))) all ∙ data-joined b (w .are)
 
   at-last : left (n + 1) ≡ []
-  unfolding chunksFrom
-  at-last = let no-more : n + 1 - (n + 1) ≡ 0 = omega arith in ap (λ (k : ℕ). chunksFrom k (n + 1) (w .segments)) no-more
+  unfolding chunksFrom join
+  at-last = let no-more : n + 1 - (n + 1) ≡ 0 = omega arith in ap (λ (k : ℕ). join (chunksFrom k (n + 1) (w .segments))) no-more
 
   -- the data of the number i, as it stands in the buffer
   abbrev pub place : ℕ → ℕ
@@ -50,12 +51,12 @@ module _ (b places : List ℕ) (n : ℕ) (w : Found b places n) where
   part i = take (size i) (drop (place i + 16) b)
 
   at-next : (i : ℕ) → 1 ≤ i → i ≤ n → left i ≡ part i ++ left (i + 1)
-  unfolding chunksFrom
+  unfolding chunksFrom join
   at-next i low high =
       let k : n + 1 - i ≡ suc (n - i) = omega arith in
       let j : n - i ≡ n + 1 - (i + 1) = omega arith in
-      ap (λ (m : ℕ). chunksFrom m i (w .segments)) k
-      ∙ ap₂ (λ (x y : List ℕ). x ++ y) (sym (w .placed i low high .chunk)) (ap₂ (λ (m o : ℕ). chunksFrom m o (w .segments)) j (sym (add-one i)))
+      ap (λ (m : ℕ). join (chunksFrom m i (w .segments))) k
+      ∙ ap₂ (λ (x y : List ℕ). x ++ y) (sym (w .placed i low high .chunk)) (ap₂ (λ (m o : ℕ). join (chunksFrom m o (w .segments))) j (sym (add-one i)))
 
   length-part : (i : ℕ) → 1 ≤ i → i ≤ n → length (part i) ≡ size i
   length-part i low high =
