@@ -11,8 +11,8 @@
 
 using namespace merqyduk;
 
-// Data of a segment: with SOME the files are in 2, 3 and 4 segments, with MANY in 66, 101 and 144.
-static const size_t SOME = 200, MANY = 5;
+// Data of a segment: with SOME the files are in 2, 3 and 4 segments, with FEW bytes in 11, 16 and 23, with the FEWEST in 66, 101 and 144.
+static const size_t SOME = 200, FEW = 32, FEWEST = 5;
 
 // Nanoseconds for one of 200 calls.
 template <class F> static double turn(F f) {
@@ -56,7 +56,7 @@ int main() {
         if (merqyduk_read(file, n, nullptr, 0) != MERQYDUK_REFUSED_OUTPUT) return 1;
         double reader = 1e18;
         std::vector<Trial> trials;
-        for (size_t size : {size_t(MERQYDUK_MAX_SEGMENT_DATA), SOME, MANY}) {
+        for (size_t size : {size_t(MERQYDUK_MAX_SEGMENT_DATA), SOME, FEW, FEWEST}) {
             Trial t{size, reversed(f.profile, size), 1e18, 1e18};
             if (merqyduk_join_segments(t.segments.data(), t.segments.size(), out, sizeof out) != n || std::memcmp(out, file, n)) return 1;
             trials.push_back(t);
@@ -65,7 +65,7 @@ int main() {
         for (int k = 0; k < 3000; k++) {
             reader = std::min(reader, turn([&] { sink = sink + merqyduk_read(file, n, nullptr, 0); }));
             for (Trial &t : trials) {
-                if (t.size == MANY && k % 20 != 0) continue;
+                if (t.size == FEWEST && k % 20 != 0) continue;
                 t.writing = std::min(t.writing, turn([&] { sink = sink + merqyduk_write_segments(file, n, t.size, out, sizeof out); }));
                 t.joining = std::min(t.joining, turn([&] {
                     sink = sink + merqyduk_join_segments(t.segments.data(), t.segments.size(), out, sizeof out);
