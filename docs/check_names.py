@@ -19,7 +19,7 @@ import sys
 
 TOP = pathlib.Path(__file__).resolve().parent.parent
 DOCUMENTS = ("COVERAGE.md", "SUPPLIER.md", "EDITS.md")
-FOLDERS = ("crates", "differential", "docs", "conformance", "host", "include", "jobs", "divisions", ".ci")
+FOLDERS = ("crates", "differential", "docs", "conformance", "host", "include", "jobs", "jpeg", "divisions", ".ci")
 SPECIFICATION = r"^\s*(?:(?:abbrev|unfoldable|pub)\s+)*(?:record\s+|data\s+)?{name}(?=[\s:({{]|$)"
 CONSTRUCTORS = r"^\s+(?:\S+\s+)*{name}(?:\s+\S+)* : "
 CODE = r"^\s*(?:pub\s+)?(?:extern\s+\"C\"\s+)?(?:fn|struct|enum|const|type)\s+{name}\b"

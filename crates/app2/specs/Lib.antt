@@ -10,3 +10,4 @@ pub mod SegmentsLaws
 pub mod TakeLaws
 pub mod RoundTrip
 pub mod AnswerNumbers
+pub mod SegmentExamples
