@@ -1,13 +1,14 @@
 -- The checks of the two calls, one by one: when each is passed, and what it then tells. Assumes nothing.
-use Prim.Native.Nat.{ℕ, _+_, _-_, _*_, _/_, _≤_, _<_}
+use Prim.Native.Nat.{ℕ, _*_, _≤_, _<_}
 use mathlib.Core.Path.{_≡_, refl, ap, sym, _∙_}
 use mathlib.Core.Logic.{_↔_}
 use mathlib.Core.Bool.{Bool, true, false, _&&_, cond}
 use mathlib.Core.List.{List}
 use mathlib.Core.Option.{Option, none, some}
 use native.Mathlib.Omega.{arith}
+use native.Mathlib.Nat.{lt-of-not-le}
 use borrow.Author.Tests.{le-leb, lt-leb, leb-true}
-use lib.Dec.{leb, lit≤}
+use lib.Dec.{leb}
 use lib.ListN.{length}
 use Rattle.buffer.specs.Buffer.{put}
 use Rattle.buffer.specs.BoolLaws.{both-left, both-right}
@@ -16,11 +17,13 @@ use Rattle.buffer.specs.CheckedLaws as CheckedLaws
 use Rattle.profile.specs.Plan.{Plan}
 use Rattle.profile.specs.Shape.{minLength, maxLength}
 use Rattle.reader_spec.specs.RefusalList as Reader
+use Rattle.reader_spec.specs.RefusalListLaws.{number-bounds}
 use Rattle.reader_spec.specs.Read.{read}
 use Rattle.reader_spec.specs.Accepts.{accepted-owned}
 use Rattle.reading.specs.Reading.{reading}
 use Rattle.app2.specs.Segments.{Segment, bytes, cut, segments}
 use Rattle.app2.specs.Joining.{parse, complete, joined}
+use Rattle.app2.specs.Properties.{Named}
 use Rattle.app2.specs.CutLaws.{cut-number, over-few}
 use Rattle.app2.specs.App2.{ifAccepted, acceptedFile, maxData, maxSegments, sizedSegments, ifComplete, completeSegments, fitting}
 use Rattle.app2.specs.App2.{writtenSegments, joinedFile, answer, output, Gives}
@@ -30,10 +33,6 @@ use Rattle.app2.specs.declared.Output.the-variants.{Written, Refused}
 cond-is : {A : Type 0} (t : Bool) (k : ℕ) {a b : A} → cond t (is a) (refused k) ≡ is b → (t ≡ true) × (a ≡ b)
 cond-is true k e = (refl, cc)
 cond-is false k e = absurd (CheckedLaws.never e)
-
-cond-refused : {A : Type 0} (t : Bool) (a : A) (j : ℕ) {k : ℕ} → cond t (is a) (refused j) ≡ refused k → j ≡ k
-cond-refused true a j e = absurd (CheckedLaws.never (sym e))
-cond-refused false a j e = cc
 
 -- ---- the reader's numbers
 
@@ -66,33 +65,17 @@ by-refusal f h = go (read f) h
     go (Reader.refused c) h = refl
     go (Reader.accepted p) h = absurd (h refl)
 
-some-number : (c : Reader.Check) → 21 ≤ Reader.number c
-some-number Reader.c21 = lit≤ tt
-some-number Reader.c22 = lit≤ tt
-some-number Reader.c23 = lit≤ tt
-some-number Reader.c24 = lit≤ tt
-some-number Reader.c25 = lit≤ tt
-some-number Reader.c26 = lit≤ tt
-some-number Reader.c27 = lit≤ tt
-some-number Reader.c28 = lit≤ tt
-
 pub by-zero : (f : List ℕ) → reading (read f) .refusal ≡ 0 → acceptedFile f ≡ is f
 unfolding acceptedFile
 by-zero f h = go (read f) h
   where
     go : (a : Reader.Answer) → reading a .refusal ≡ 0 → ifAccepted a f ≡ is f
-    go (Reader.refused c) h = absurd (omega (arith, some-number c))
+    go (Reader.refused c) h = absurd (omega (arith, number-bounds c .0))
     go (Reader.accepted p) h = refl
 
 -- ---- 53
 
--- a size within its limits, of which the file needs no more than 255 segments: its length over the size, rounded up
-pub record Named (n : ℕ) (f : List ℕ) : Type 0 where
-  pub low : 1 ≤ n
-  pub high : n ≤ maxData
-  pub few : (length f + (n - 1)) / n ≤ maxSegments
-
--- the same without a division
+-- without a division
 pub named-if : (n : ℕ) (f : List ℕ) → 1 ≤ n → n ≤ maxData → length f ≤ maxSegments * n → Named n f
 named-if n f low high h = record { low = low; high = high; few = over-few n low (length f) .1 h }
 
@@ -177,9 +160,38 @@ pub fitting-is : (room : ℕ) (l : List ℕ) {m : List ℕ} → fitting room l �
 unfolding fitting
 fitting-is room l e = let both = cond-is (leb (length l) room) 55 e in (leb-true (length l) room (both .0), both .1)
 
-pub fitting-refused : (room : ℕ) (l : List ℕ) {k : ℕ} → fitting room l ≡ refused k → 55 ≡ k
-unfolding fitting
-fitting-refused room l e = cond-refused (leb (length l) room) l 55 e
+pub fitting-exactly : (room : ℕ) (l : List ℕ) → (fitting room l ≡ refused 55) ↔ (room < length l)
+fitting-exactly room l = (λ e. lt-of-not-le (λ h. CheckedLaws.never (sym e ∙ fitting-of room l h)), fitting-not room l)
+
+-- ---- with which numbers each check refuses
+
+module _ (P : ℕ → Type 0) where
+  tested : {A : Type 0} (t : Bool) (a : A) (k : ℕ) → P k → CheckedLaws.Refusing P (cond t (is a) (refused k))
+  tested t a k h = CheckedLaws.by-cond P t (is a) (refused k) tt h
+
+  pub accepted-refusing : ((c : Reader.Check) → P (Reader.number c)) → (f : List ℕ) → CheckedLaws.Refusing P (acceptedFile f)
+  unfolding acceptedFile
+  accepted-refusing h f = go (read f)
+    where
+      go : (a : Reader.Answer) → CheckedLaws.Refusing P (ifAccepted a f)
+      go (Reader.refused c) = h c
+      go (Reader.accepted p) = tt
+
+  pub sized-refusing : P 53 → (n : ℕ) (f : List ℕ) → CheckedLaws.Refusing P (sizedSegments n f)
+  unfolding sizedSegments
+  sized-refusing h n f = tested (leb 1 n && (leb n maxData && leb (length (cut n f)) maxSegments)) (segments n f) 53 h
+
+  pub complete-refusing : P 54 → (b : List ℕ) → CheckedLaws.Refusing P (completeSegments b)
+  unfolding completeSegments
+  complete-refusing h b = go (parse b)
+    where
+      go : (o : Option (List Segment)) → CheckedLaws.Refusing P (ifComplete o)
+      go none = h
+      go (some ss) = tested (complete ss) ss 54 h
+
+  pub fitting-refusing : P 55 → (room : ℕ) (l : List ℕ) → CheckedLaws.Refusing P (fitting room l)
+  unfolding fitting
+  fitting-refusing h room l = tested (leb (length l) room) l 55 h
 
 -- ---- the promise
 

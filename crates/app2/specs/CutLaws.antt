@@ -12,11 +12,7 @@ use lib.ListN.{length, take, drop, length-take, length-drop, take-append-drop}
 use Rattle.profile.specs.TagTypes.{join}
 use Rattle.buffer.specs.All.{All, none, more}
 use Rattle.app2.specs.Segments.{chunks, cut}
-
--- chunks of n bytes each, the last alone shorter and not empty
-pub data Cut (n : ℕ) : List (List ℕ) → Type 0 where
-  last : {p : List ℕ} → 1 ≤ length p → length p ≤ n → Cut n (p ∷ [])
-  whole : {p : List ℕ} {ps : List (List ℕ)} → length p ≡ n → Cut n ps → Cut n (p ∷ ps)
+use Rattle.app2.specs.Properties.{Cut, last, whole}
 
 module _ (n : ℕ) (some-size : 1 ≤ n) where
   left : (k b : ℕ) (l : List ℕ) → length (b ∷ l) ≤ suc k → length (drop n (b ∷ l)) ≤ k

@@ -11,7 +11,7 @@ use lib.Dec.{leb}
 use lib.ListN.{length, take, drop, getD, length-append, length-take, length-drop, take-append-drop}
 use lib.Seq.{take-at, drop-at, drop-cons, drop-drop}
 use Rattle.buffer.specs.All.{All, none as no-more, more}
-use Rattle.buffer.specs.BoolLaws.{both-left, both-right, never}
+use Rattle.buffer.specs.BoolLaws.{both-left, both-right}
 use Rattle.buffer.specs.Bytes.{same}
 use Rattle.buffer.specs.BytesLaws.{same-if}
 use Rattle.words.specs.Words.{be16, word16}
@@ -20,18 +20,16 @@ use Rattle.profile.specs.TagTypes.{join}
 use Rattle.reader_spec.specs.FitsLaws.{Bytes}
 use Rattle.app2.specs.Segments.{Segment, marker, name, front, segmentBytes, bytes}
 use Rattle.app2.specs.Joining.{stated, begins, first, rest, before, parseUpTo, parse}
+use Rattle.app2.specs.Properties.{Fits, Parsed}
 
--- the data fits the 16 bits of the length
-pub record Fits (s : Segment) : Type 0 where
-  pub short : length (s .chunk) ≤ 65519
+-- 18 bytes beside its data
+pub length-segment : (s : Segment) → length (segmentBytes s) ≡ 18 + length (s .chunk)
+unfolding segmentBytes front join be16
+length-segment s = omega arith
 
 module _ (s : Segment) (fits : Fits s) (r : List ℕ) where
   abbrev here : List ℕ
   here = segmentBytes s ++ r
-
-  length-front : length (segmentBytes s) ≡ 18 + length (s .chunk)
-  unfolding segmentBytes front join be16
-  length-front = omega arith
 
   stated-is : stated here ≡ 16 + length (s .chunk)
   unfolding segmentBytes front join be16 word16
@@ -51,7 +49,7 @@ module _ (s : Segment) (fits : Fits s) (r : List ℕ) where
       let all : length here ≡ length (segmentBytes s) + length r = length-append (segmentBytes s) r in
       let a : leb 16 (stated here) ≡ true = le-leb 16 (stated here) (omega (arith, stated-is)) in
       let b : leb (2 + stated here) (length here) ≡ true =
-      le-leb (2 + stated here) (length here) (omega (arith, stated-is, length-front, all))
+      le-leb (2 + stated here) (length here) (omega (arith, stated-is, length-segment s, all))
       in
       rw (marked, named, a, b)
 
@@ -63,7 +61,7 @@ module _ (s : Segment) (fits : Fits s) (r : List ℕ) where
 
   rest-is : rest here ≡ r
   unfolding rest
-  rest-is = drop-at (segmentBytes s) r (2 + stated here) (omega (arith, length-front, stated-is))
+  rest-is = drop-at (segmentBytes s) r (2 + stated here) (omega (arith, length-segment s, stated-is))
 
 -- ---- a whole buffer
 
@@ -112,12 +110,12 @@ parse-step (b ∷ l) h =
 parse-up-to : (ss : List Segment) → All Fits ss → (k : ℕ) → length (bytes ss) ≤ k → parseUpTo k (bytes ss) ≡ some ss
 unfolding bytes join
 parse-up-to [] no-more k h = nothing k
-parse-up-to (s ∷ ss) (more f fs) zero h = absurd (omega (arith, length-front s f (bytes ss), length-append (segmentBytes s) (bytes ss)))
+parse-up-to (s ∷ ss) (more f fs) zero h = absurd (omega (arith, length-segment s, length-append (segmentBytes s) (bytes ss)))
 parse-up-to (s ∷ ss) (more f fs) (suc k) h =
     let r : List ℕ = bytes ss in
     let all : length (segmentBytes s ++ r) ≡ length (segmentBytes s) + length r = length-append (segmentBytes s) r in
-    step k (segmentBytes s ++ r) (omega (arith, length-front s f r))
-    ∙ rw (begins-is s f r, first-is s f r, rest-is s f r, parse-up-to ss fs k (omega (arith, length-front s f r)))
+    step k (segmentBytes s ++ r) (omega (arith, length-segment s))
+    ∙ rw (begins-is s f r, first-is s f r, rest-is s f r, parse-up-to ss fs k (omega (arith, length-segment s)))
 
 -- parsing the bytes of segments gives these segments
 pub parse-bytes : (ss : List Segment) → All Fits ss → parse (bytes ss) ≡ some ss
@@ -232,11 +230,6 @@ module _ (l : List ℕ) (bs : Bytes l) (e : begins l ≡ true) where
   fits-there : Fits (first l)
   unfolding word16
   fits-there = record { short = omega (arith, length-held, parts .2, word16-drop 2 l, bs 2, bs 3) }
-
--- what is parsed has the buffer's bytes
-pub record Parsed (l : List ℕ) (ss : List Segment) : Type 0 where
-  pub fit : All Fits ss
-  pub bytes-are : bytes ss ≡ l
 
 none-is-none : {l : List ℕ} (ss : List Segment) → none ≡ some ss → Parsed l ss
 none-is-none ss e = let z : _≡_ {A = ℕ} 0 1 = cc in absurd (omega arith)

@@ -1,31 +1,35 @@
 -- Order 4's theorems: segments joined give the bytes that went out, whatever the size of their data and their order; joining gives only files that the
--- reader accepts; what 53 says; which bytes are segments, and that they are these and no others. Assumes nothing.
-use Prim.Native.Nat.{ℕ, _+_, _-_, _*_, _/_, _≤_}
-use mathlib.Core.Path.{_≡_, ap, sym, _∙_}
+-- reader accepts; what 53, 54 and 55 say; which bytes are segments, and that they are these and no others. Assumes nothing.
+use Prim.Native.Nat.{ℕ, _+_, _-_, _*_, _/_, _≤_, _<_}
+use mathlib.Core.Path.{_≡_, refl, ap, sym, _∙_}
 use mathlib.Core.Logic.{_↔_}
 use mathlib.Core.Bool.{true}
 use mathlib.Core.List.{List}
 use mathlib.Core.Option.{some}
 use native.Mathlib.Omega.{arith}
+use native.Mathlib.Nat.{lt-of-not-le}
 use lib.ListN.{length}
 use Rattle.buffer.specs.All.{All}
-use Rattle.buffer.specs.Checked.{Checked, is, refused, then}
-use Rattle.buffer.specs.CheckedLaws.{both}
+use Rattle.buffer.specs.Checked.{is, refused}
+use Rattle.buffer.specs.CheckedLaws.{both, Refusing, refusing, by-then}
 use Rattle.profile.specs.Plan.{Plan}
 use Rattle.profile.specs.TagTypes.{join}
 use Rattle.reader_spec.specs.RefusalList.{accepted}
+use Rattle.reader_spec.specs.RefusalListLaws.{number-bounds}
 use Rattle.reader_spec.specs.Read.{read}
 use Rattle.reader_spec.specs.Accepts.{accepted-owned}
 use Rattle.reader_spec.specs.FitsLaws.{Bytes}
 use Rattle.app2.specs.Segments.{Segment, bytes, cut, numbered, segments}
 use Rattle.app2.specs.Joining.{parse, complete, chunksFrom, joined}
-use Rattle.app2.specs.App2.{acceptedFile, maxData, fitting, sizedSegments, writtenSegments, joinedFile}
+use Rattle.app2.specs.App2.{acceptedFile, maxData, completeSegments, fitting, sizedSegments, writtenSegments, joinedFile}
 use Rattle.app2.specs.Permutation.{Permutation}
-use Rattle.app2.specs.CutLaws.{Cut, cut-join, cut-cut}
-use Rattle.app2.specs.ParseLaws.{Fits, Parsed, parse-exactly as parsed-exactly, bytes-unique}
+use Rattle.app2.specs.Properties.{Cut, Short, Fits, Parsed, Named}
+use Rattle.app2.specs.CutLaws.{cut-join, cut-cut}
+use Rattle.app2.specs.ParseLaws.{parse-exactly as parsed-exactly, bytes-unique}
 use Rattle.app2.specs.JoinLaws.{same-order, complete-order, length-from}
-use Rattle.app2.specs.ChecksLaws.{Named, named-few, accepted-of, accepted-is, sized-is, sized-of, sized-not, complete-is, fitting-of, fitting-is, fitting-refused}
-use Rattle.app2.specs.SegmentsLaws.{Short, order-short, any-complete, any-joined, cut-short, cut-some, length-segments}
+use Rattle.app2.specs.ChecksLaws.{named-few, accepted-of, accepted-is, sized-is, complete-of, complete-is, complete-not, fitting-of, fitting-is, fitting-exactly}
+use Rattle.app2.specs.ChecksLaws.{written-53, written-sized, joined-54, joined-55 as joined-short, joined-fitting, accepted-refusing, fitting-refusing}
+use Rattle.app2.specs.SegmentsLaws.{order-short, any-complete, any-joined, cut-short, cut-some, length-segments}
 
 -- ---- the cut
 
@@ -156,18 +160,49 @@ joins-exactly b bs room l = (λ e. segmented b room l bs (joined-is b room l e),
         ∙ joins-any (s .chunks) (s .some-one) (s .short) (s .found) (s .order) room (omega (arith, s .fits, ap length (s .data-is)))
         ∙ ap acceptedFile (s .data-is) ∙ accepted-of l (s .read-is)
 
--- ---- 53
+-- ---- each number exactly
 
--- of a file that the reader accepts: 53 exactly if the size is outside 1 to 65,519 or needs more than 255 segments
+abbrev Other : ℕ → ℕ → Type 0
+Other n k = ¬ (k ≡ n)
+
+-- writing a file that the reader accepts: 53 exactly if the size is outside 1 to 65,519 or needs more than 255 segments
 pub refused-53 : (f : List ℕ) (p : Plan) → read f ≡ accepted p → (n room : ℕ) → (writtenSegments f n room ≡ refused 53) ↔ (¬ Named n f)
-unfolding writtenSegments
-refused-53 f p r n room = (to, λ h. rw (accepted-of f r, sized-not n f h))
+refused-53 f p r n room = (to, written-53 f n room (accepted-of f r))
   where
-    past : Named n f → writtenSegments f n room ≡ fitting room (bytes (segments n f))
-    past h = rw (accepted-of f r, sized-of n f h)
-
     to : writtenSegments f n room ≡ refused 53 → ¬ Named n f
-    to e h = omega (arith, fitting-refused room (bytes (segments n f)) (sym (past h) ∙ e))
+    to e h = refusing (Other 53) (fitting-refusing (Other 53) (λ same. omega arith) room _) (sym (written-sized f n room (accepted-of f r) h) ∙ e) refl
+
+-- and then 55 exactly if the output is shorter than the segments
+pub written-55 : (f : List ℕ) (p : Plan) → read f ≡ accepted p → (n : ℕ) → Named n f → (room : ℕ)
+    → (writtenSegments f n room ≡ refused 55) ↔ (room < length (bytes (segments n f)))
+written-55 f p r n h room = rw (written-sized f n room (accepted-of f r) h) (fitting-exactly room (bytes (segments n f)))
+
+-- joining: 54 exactly if no complete segments have the buffer's bytes
+pub refused-54 : (b : List ℕ) → Bytes b → (room : ℕ)
+    → (joinedFile b room ≡ refused 54) ↔ ((ss : List Segment) → Parsed b ss → complete ss ≡ true → ⊥)
+unfolding joinedFile
+refused-54 b bs room = (to, λ h. joined-54 b room (complete-not b (λ ss e. h ss (parsed-exactly b bs ss .0 e))))
+  where
+    later : (ss : List Segment) → completeSegments b ≡ is ss → Refusing (Other 54) (joinedFile b room)
+    later ss e =
+        rw e
+        (by-then (Other 54) (fitting room (joined ss)) acceptedFile (fitting-refusing (Other 54) (λ same. omega arith) room (joined ss))
+        (accepted-refusing (Other 54) (λ c same. omega (arith, number-bounds c .1))))
+
+    to : joinedFile b room ≡ refused 54 → (ss : List Segment) → Parsed b ss → complete ss ≡ true → ⊥
+    to e ss p whole = refusing (Other 54) (later ss (complete-of b (parsed-exactly b bs ss .1 p) whole)) e refl
+
+-- and then 55 exactly if the output is shorter than the data
+pub joined-55 : (b : List ℕ) → Bytes b → (ss : List Segment) → Parsed b ss → complete ss ≡ true → (room : ℕ)
+    → (joinedFile b room ≡ refused 55) ↔ (room < length (joined ss))
+joined-55 b bs ss p whole room = (λ e. lt-of-not-le (to e), joined-short b room there)
+  where
+    there : completeSegments b ≡ is ss
+    there = complete-of b (parsed-exactly b bs ss .1 p) whole
+
+    to : joinedFile b room ≡ refused 55 → ¬ (length (joined ss) ≤ room)
+    to e h =
+        refusing (Other 55) (accepted-refusing (Other 55) (λ c same. omega (arith, number-bounds c .1)) (joined ss)) (sym (joined-fitting b room there h) ∙ e) refl
 
 -- a byte a segment is always 53
 pub size-one : (f : List ℕ) (p : Plan) → read f ≡ accepted p → ¬ Named 1 f

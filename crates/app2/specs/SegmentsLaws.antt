@@ -1,29 +1,24 @@
 -- The segments of a file, and of any data numbered from 1 on: they fit, they are complete, they join to that data in any order, and how many bytes they
 -- have. Assumes nothing.
 use Prim.Native.Nat.{ℕ, suc, _+_, _-_, _*_, _/_, _≤_}
-use mathlib.Core.Path.{_≡_, refl, ap, sym, _∙_}
-use mathlib.Core.Bool.{true}
+use mathlib.Core.Path.{_≡_, refl, sym, _∙_}
 use mathlib.Core.List.{List, [], _∷_}
-use mathlib.Core.Option.{some}
 use native.Mathlib.Omega.{arith}
 use lib.ListN.{length, length-append}
 use Rattle.buffer.specs.All.{All, none, more}
 use Rattle.buffer.specs.Checked.{is}
-use Rattle.words.specs.Words.{be16}
 use Rattle.profile.specs.TagTypes.{join}
-use Rattle.app2.specs.Segments.{Segment, front, segmentBytes, bytes, cut, numbered, segments}
+use Rattle.app2.specs.Segments.{Segment, segmentBytes, bytes, cut, numbered, segments}
 use Rattle.app2.specs.Joining.{complete, joined}
 use Rattle.app2.specs.App2.{maxData, completeSegments}
 use Rattle.app2.specs.Permutation.{Permutation, none as no-member, same-first, swap, then}
-use Rattle.app2.specs.CutLaws.{Cut, cut-join, cut-cut, cut-number, cut-within}
-use Rattle.app2.specs.ParseLaws.{Fits, parse-bytes}
+use Rattle.app2.specs.Properties.{Cut, last, whole, Short, Fits}
+use Rattle.app2.specs.CutLaws.{cut-join, cut-cut, cut-number, cut-within}
+use Rattle.app2.specs.ParseLaws.{length-segment, parse-bytes}
 use Rattle.app2.specs.JoinLaws.{complete-numbered, joined-numbered, complete-same, joined-same}
 use Rattle.app2.specs.ChecksLaws.{complete-of}
 
 -- ---- any data
-
-abbrev pub Short : List ℕ → Type 0
-Short p = length p ≤ maxData
 
 numbered-fit : (c i : ℕ) {ps : List (List ℕ)} → All Short ps → All Fits (numbered c i ps)
 unfolding numbered
@@ -74,14 +69,10 @@ pub cut-some : (n : ℕ) (f : List ℕ) → 1 ≤ n → 1 ≤ length f → 1 ≤
 cut-some n f low some-byte = go (cut-cut n low f some-byte)
   where
     go : {ps : List (List ℕ)} → Cut n ps → 1 ≤ length ps
-    go (Cut.last a b) = omega arith
-    go (Cut.whole e c) = omega arith
+    go (last a b) = omega arith
+    go (whole e c) = omega arith
 
 -- ---- how long they are
-
-pub length-segment : (s : Segment) → length (segmentBytes s) ≡ 18 + length (s .chunk)
-unfolding segmentBytes front join be16
-length-segment s = omega arith
 
 length-bytes : (c i : ℕ) (ps : List (List ℕ)) → length (bytes (numbered c i ps)) ≡ length (join ps) + 18 * length ps
 unfolding numbered bytes join

@@ -19,6 +19,7 @@ use Rattle.profile.specs.Layout.{layout}
 use Rattle.writer.specs.Writer.{answer, output, Writes, tooShort}
 use Rattle.writer.specs.declared.Profile.the-variants.{Written, Refused}
 use Rattle.reader_spec.specs.RefusalList.{Answer, Answers, Check, FirstFailing, checks, refused, accepted, refuses as by-list, number}
+use Rattle.reader_spec.specs.RefusalListLaws.{number-bounds}
 use Rattle.reader_spec.specs.Read.{read}
 use Rattle.reader_spec.specs.ReadAnswers.{read-answers, read-is}
 use Rattle.reader_spec.specs.Owners.{Owned}
@@ -30,7 +31,7 @@ use Rattle.plan_record.specs.RecordTold.{record-told}
 use Rattle.host.specs.Host.{readNumber, ReadsPlan}
 use Rattle.demands.specs.Demand2Laws.{written-not-refused}
 use Rattle.demands.specs.Told.{told}
-use Rattle.demands.specs.ToldLaws.{checkBy, check-back, number-above, plan-told, refusal-told}
+use Rattle.demands.specs.ToldLaws.{checkBy, check-back, plan-told, refusal-told}
 
 -- ---- the reader
 
@@ -62,7 +63,7 @@ module _ (f : List ℕ) (r : Reading) (h : r ≡ reading (read f)) where
     where
       go : (a : Answer) → read f ≡ a → (p : Plan) × (read f ≡ accepted p)
       go (accepted p) e = (p, e)
-      go (refused c) e = absurd (omega (arith, number-above c, refusal-is (refused c) e, zero))
+      go (refused c) e = absurd (omega (arith, number-bounds c .0, refusal-is (refused c) e, zero))
 
   pub accepts : (r .refusal ≡ 0) ↔ ((p : Plan) × Valid p × (layout p ≡ f))
   accepts = (
@@ -93,10 +94,10 @@ module _ (f : List ℕ) (r : Reading) (h : r ≡ reading (read f)) where
 -- ---- the reader from C
 
 number-answered : (c : Check) (n : ℕ) → readNumber (reading (refused c)) n ≡ number c
-number-answered c n = rw (ne-eqb (number c) 0 (λ z. omega (arith, number-above c)))
+number-answered c n = rw (ne-eqb (number c) 0 (λ z. omega (arith, number-bounds c .0)))
 
 refusal-not-zero : (c : Check) (n : ℕ) → 0 ≡ readNumber (reading (refused c)) n → ⊥
-refusal-not-zero c n e = omega (arith, number-above c, e ∙ number-answered c n)
+refusal-not-zero c n e = omega (arith, number-bounds c .0, e ∙ number-answered c n)
 
 -- where the answer is 0 the record holds the struct
 in-record : (a : Reading) (before : List ℕ) {after : List ℕ} {n : ℕ} → 0 ≡ n → after ≡ cond (eqb n 0) (put before 0 (planRecord a)) before → after ≡ put before 0 (planRecord a)
@@ -149,7 +150,7 @@ module _ (f before after : List ℕ) (r : ℕ) (h : ReadsPlan (reading (read f))
       small false = omega arith
 
       go : r ≡ number c → (a : Answer) → read f ≡ a → FirstFailing f checks c
-      go t (accepted q) e = absurd (omega (arith, number-above c, small (leb recordSize (length before)), answered (accepted q) e, t))
+      go t (accepted q) e = absurd (omega (arith, number-bounds c .0, small (leb recordSize (length before)), answered (accepted q) e, t))
       go t (refused d) e =
           let same : d ≡ c = same-number (sym (refused-number d e) ∙ t) in
           let listed : Answers f (refused d) = rw e at (read-answers f) in

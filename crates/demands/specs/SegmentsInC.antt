@@ -1,7 +1,7 @@
 -- Order 4 from C: what `merqyduk_write_segments` wrote, `merqyduk_join_segments` joins to the file, in any order of the segments; what it joins is a file that
--- the reader accepts; what 53 says; and a refusal leaves the output as it was. Assumes nothing.
+-- the reader accepts; when a number is answered; and a refusal leaves the output as it was. Assumes nothing.
 use Prim.Native.Nat.{ℕ, _≤_}
-use mathlib.Core.Path.{_≡_, ap, sym, _∙_}
+use mathlib.Core.Path.{_≡_, ap, _∙_}
 use mathlib.Core.Logic.{_↔_}
 use mathlib.Core.List.{List}
 use native.Mathlib.Omega.{arith}
@@ -15,8 +15,7 @@ use Rattle.app2.specs.Segments.{Segment, bytes, segments}
 use Rattle.app2.specs.Permutation.{Permutation}
 use Rattle.app2.specs.App2 as App2
 use Rattle.app2.specs.App2.{number, answer, maxData, writtenSegments, joinedFile}
-use Rattle.app2.specs.ChecksLaws.{Named}
-use Rattle.app2.specs.RoundTrip.{round-trip, joins-back, joined-is, refused-53}
+use Rattle.app2.specs.RoundTrip.{round-trip, joins-back, joined-is}
 use Rattle.host.specs.Host.{GivesNumber}
 use Rattle.demands.specs.SegmentsInCLaws.{wrote, refused-with, put-parts}
 
@@ -67,15 +66,13 @@ joined-in-c b before after r j h =
 
 -- ---- refusals
 
--- of a file that the reader accepts: 53 exactly if the size is outside 1 to 65,519 or needs more than 255 segments
-pub refused-53-in-c : (f : List ℕ) (p : Plan) → read f ≡ accepted p → (n : ℕ) (before after : List ℕ) (r : ℕ) → WritesInC f n before after r
-    → (r ≡ 53) ↔ (¬ Named n f)
-refused-53-in-c f p e n before after r w =
-    let exactly = refused-53 f p e n (length before) in (
-      λ same. exactly .0 (refused-with _ before after r w (omega arith) .0 ∙ ap refused same),
-      λ not. w .answer ∙ ap (λ c. number (answer c)) (exactly .1 not),
-    )
+-- a number up to 99 is answered exactly if the call gives that refusal; `refused-53`, `written-55`, `refused-54` and `joined-55` of `RoundTrip` say when
+pub refused-exactly-in-c : (c : Checked (List ℕ)) (before after : List ℕ) (r k : ℕ) → GivesNumber c before after r → k ≤ 99 → (r ≡ k) ↔ (c ≡ refused k)
+refused-exactly-in-c c before after r k g h = (
+  λ same. refused-with c before after r g (omega arith) .0 ∙ ap refused same,
+  λ e. g .answer ∙ ap (λ c. number (answer c)) e,
+)
 
--- a number up to 99 is a refusal, and leaves the output as it was
+-- and leaves the output as it was
 pub refused-in-c : (c : Checked (List ℕ)) (before after : List ℕ) (r : ℕ) → GivesNumber c before after r → r ≤ 99 → after ≡ before
 refused-in-c c before after r g h = refused-with c before after r g h .1

@@ -1,10 +1,10 @@
 -- `told` undoes `reading`: of a plan that the reader answers, and of a refusal. Assumes nothing.
-use Prim.Native.Nat.{ℕ, _-_, _≤_}
+use Prim.Native.Nat.{ℕ, _-_}
 use mathlib.Core.Path.{_≡_, refl, ap, ap₂, _∙_}
 use mathlib.Core.Logic.{inl, inr}
 use mathlib.Core.Bool.{cond}
 use mathlib.Core.List.{List}
-use lib.Dec.{eqb, lit≤}
+use lib.Dec.{eqb}
 use lib.ListN.{length, replicate}
 use lib.Seq.{take-at}
 use Rattle.buffer.specs.Checked.{is, refused as refusedBy}
@@ -78,16 +78,6 @@ check-back c25 = refl
 check-back c26 = refl
 check-back c27 = refl
 check-back c28 = refl
-
-pub number-above : (c : Check) → 21 ≤ number c
-number-above c21 = lit≤ tt
-number-above c22 = lit≤ tt
-number-above c23 = lit≤ tt
-number-above c24 = lit≤ tt
-number-above c25 = lit≤ tt
-number-above c26 = lit≤ tt
-number-above c27 = lit≤ tt
-number-above c28 = lit≤ tt
 
 pub refusal-told : (c : Check) → told (reading (refused c)) ≡ refusedBy (number c)
 refusal-told c21 = refl

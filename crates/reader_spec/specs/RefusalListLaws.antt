@@ -1,8 +1,9 @@
 -- The reader accepts exactly the files that plans lay out to, and has one answer to each file. Assumes nothing.
-use Prim.Native.Nat.{ℕ, _+_, _*_}
+use Prim.Native.Nat.{ℕ, _+_, _*_, _≤_}
 use mathlib.Core.Path.{_≡_, refl, ap, ap₂, sym, _∙_, subst}
 use mathlib.Core.List.{List, _++_}
 use native.Mathlib.Omega.{arith}
+use lib.Dec.{lit≤}
 use lib.IntN.{ℤ}
 use lib.ListN.{length, drop, length-append, length-drop, take-append-drop}
 use lib.Seq.{take-at, drop-drop, length-take-le}
@@ -22,6 +23,18 @@ use Rattle.reader_spec.specs.Table.{varyingOf, tagsOf, tableOf, bodyOf}
 use Rattle.reader_spec.specs.PlanIn.{planIn}
 use Rattle.reader_spec.specs.FileLaws.{varying, fours, header-128, length-slots, table-withId, body-withId, varying-withId, plan-in-withId, layout-injective, id-layout, size-layout, valid-wide}
 use Rattle.reader_spec.specs.RefusalList
+
+-- ---- the numbers of the checks
+
+pub number-bounds : (c : RefusalList.Check) → (21 ≤ RefusalList.number c) × (RefusalList.number c ≤ 28)
+number-bounds RefusalList.c21 = (lit≤ tt, lit≤ tt)
+number-bounds RefusalList.c22 = (lit≤ tt, lit≤ tt)
+number-bounds RefusalList.c23 = (lit≤ tt, lit≤ tt)
+number-bounds RefusalList.c24 = (lit≤ tt, lit≤ tt)
+number-bounds RefusalList.c25 = (lit≤ tt, lit≤ tt)
+number-bounds RefusalList.c26 = (lit≤ tt, lit≤ tt)
+number-bounds RefusalList.c27 = (lit≤ tt, lit≤ tt)
+number-bounds RefusalList.c28 = (lit≤ tt, lit≤ tt)
 
 -- ---- a plan that has a file's regions has the file
 

@@ -1,6 +1,6 @@
 -- The loop that tests the segments of a buffer: what it has passed, where the data of each sequence number stands, and why the segments are not complete
 -- where it stops. Assumes nothing.
-use Prim.Native.Nat.{ℕ, suc, _+_, _-_, _*_, _≤_, _<_}
+use Prim.Native.Nat.{ℕ, _+_, _-_, _*_, _≤_, _<_}
 use mathlib.Core.Path.{_≡_, refl, ap, ap₂, sym, _∙_}
 use mathlib.Core.Bool.{Bool, true, false, _&&_, cond}
 use mathlib.Core.List.{List, [], _∷_, _++_, append-assoc, append-nil}
@@ -12,13 +12,13 @@ use lib.Dec.{leb, eqb}
 use lib.ListN.{length, take, drop, getD, set, replicate, length-append, length-drop, getD-replicate, drop-of-length-le}
 use lib.Seq.{drop-drop, getD-set-same, getD-set-other}
 use Rattle.buffer.specs.BoolLaws.{both-left, both-right, and-assoc, true≢false}
-use Rattle.buffer.specs.Checked.{is, refused}
+use Rattle.buffer.specs.Checked.{is}
 use Rattle.words.specs.Words.{word16}
 use Rattle.words.specs.WordsLaws.{bytes-drop, word16-lt}
 use Rattle.reader_spec.specs.FitsLaws.{Bytes}
-use Rattle.app2.specs.Segments.{Segment, marker, name}
+use Rattle.app2.specs.Segments.{Segment}
 use Rattle.app2.specs.Joining.{stated, begins, first, rest, before, parse, times, eachOnce, counts, complete, chunkOf}
-use Rattle.app2.specs.App2.{maxSegments, completeSegments}
+use Rattle.app2.specs.App2.{maxSegments}
 use Rattle.app2.specs.ParseLaws.{parse-nothing, parse-step, begins-parts}
 use Rattle.app2.specs.ChecksLaws.{Incomplete, complete-of, complete-not}
 use Rattle.segments_finder.specs.Found.{HasData, Found, Finds, beginsNew}

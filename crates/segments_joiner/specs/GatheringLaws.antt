@@ -15,9 +15,9 @@ use Rattle.words.specs.Words.{word16}
 use Rattle.profile.specs.TagTypes.{join}
 use Rattle.app2.specs.Segments.{Segment}
 use Rattle.app2.specs.App2.{completeSegments}
-use Rattle.app2.specs.Joining.{chunkOf, chunksFrom, joined}
+use Rattle.app2.specs.Joining.{chunksFrom, joined}
 use Rattle.app2.specs.TakeLaws.{take-append, take-min}
-use Rattle.segments_finder.specs.Found.{HasData, Found}
+use Rattle.segments_finder.specs.Found.{Found}
 use Rattle.segments_joiner.specs.Data.{dataOf, Gathers}
 
 -- the data of the segments that were found

@@ -12,7 +12,7 @@ use Rattle.words.specs.Words.{be32, word32}
 use Rattle.words.specs.WordsLaws.{word32-be32, be32-front, length-be32}
 use Rattle.profile.specs.declared.Kind.{Kind}
 use Rattle.profile.specs.PlanLaws.{at-least, at-most}
-use Rattle.profile.specs.Shape.{slotsOf, maxLength}
+use Rattle.profile.specs.Shape.{maxLength}
 use Rattle.profile.specs.TagTypes.{join}
 use Rattle.profile.specs.Layout.{Varying, header}
 use Rattle.reader_spec.specs.FitsLaws.{Bytes}

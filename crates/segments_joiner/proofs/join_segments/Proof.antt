@@ -5,7 +5,6 @@ use mathlib.Core.List.{List}
 use native.Mathlib.Omega.{arith}
 use borrow.Author.Needs.{needs}
 use lib.ListN.{length, take, replicate}
-use lib.Seq.{length-take-le}
 use Rattle.buffer.specs.Buffer.{put}
 use Rattle.buffer.specs.Checked.{refused}
 use Rattle.reader_spec.specs.Read.{read}

@@ -7,7 +7,7 @@ use borrow.Author.Needs.{needs}
 use lib.ListN.{length, take, drop, length-take, length-drop}
 use Rattle.buffer.specs.PutsLaws.{same}
 use Rattle.app2.specs.Segments.{Segment, segmentBytes}
-use Rattle.app2.specs.SegmentsLaws.{length-segment}
+use Rattle.app2.specs.ParseLaws.{length-segment}
 use Rattle.app2.specs.TakeLaws.{take-least}
 use Rattle.segments_writer.specs.WritingLaws.{Writing, begin, next, counted, has-room, onward, all-written}
 use Rattle.segments_writer.proofs.put_segments.Statement.{statement}

@@ -11,7 +11,8 @@ use Rattle.app2.specs.Segments.{bytes, segments}
 use Rattle.app2.specs.App2.{acceptedFile, writtenSegments, Gives}
 use Rattle.app2.specs.declared.Output.the-variants.{Refused}
 use Rattle.app2.specs.CutLaws.{cut-number}
-use Rattle.app2.specs.ChecksLaws.{Named, named-if, named-few, by-refusal, by-zero, accepted-bounds, fitting-of, fitting-not, gives-refusal, gives-bytes, written-unread, written-53, written-sized}
+use Rattle.app2.specs.Properties.{Named}
+use Rattle.app2.specs.ChecksLaws.{named-if, named-few, by-refusal, by-zero, accepted-bounds, fitting-of, fitting-not, gives-refusal, gives-bytes, written-unread, written-53, written-sized}
 use Rattle.app2.specs.SegmentsLaws.{length-segments}
 use Rattle.segments_writer.proofs.write_segments.Statement.{statement}
 use Rattle.segments_writer.proofs.write_segments.Tie as tie
