@@ -14,6 +14,27 @@ use Rattle.app2.specs.Segments.{Segment, numbered}
 use Rattle.app2.specs.Joining.{times, eachOnce, counts, complete, chunkOf, chunksFrom, joined}
 use Rattle.app2.specs.Permutation.{Permutation, none, same-first, swap, then}
 
+-- ---- the parts of `complete`
+
+pub record Complete (ss : List Segment) : Type 0 where
+  pub some-segment : 1 ≤ length ss
+  pub counted : counts (length ss) ss ≡ true
+  pub once : eachOnce (length ss) 1 ss ≡ true
+
+pub complete-parts : (ss : List Segment) → complete ss ≡ true → Complete ss
+unfolding complete
+complete-parts ss e =
+    let on = both-right (leb 1 (length ss)) (counts (length ss) ss && eachOnce (length ss) 1 ss) e in
+    record {
+      some-segment = leb-true 1 (length ss) (both-left (leb 1 (length ss)) _ e);
+      counted = both-left (counts (length ss) ss) (eachOnce (length ss) 1 ss) on;
+      once = both-right (counts (length ss) ss) (eachOnce (length ss) 1 ss) on;
+    }
+
+pub complete-whole : (ss : List Segment) → Complete ss → complete ss ≡ true
+unfolding complete
+complete-whole ss h = rw (le-leb 1 (length ss) (h .some-segment), h .counted, h .once)
+
 -- ---- numbered chunks
 
 module _ (c : ℕ) where
@@ -144,13 +165,9 @@ from-same (suc k) i {one} {two} p e =
 
 -- complete segments join to the same bytes in any order
 pub joined-same : {one two : List Segment} → Permutation one two → complete one ≡ true → joined one ≡ joined two
-unfolding joined complete
+unfolding joined
 joined-same {one} {two} p e =
-    let once : eachOnce (length one) 1 one ≡ true =
-    both-right (counts (length one) one) (eachOnce (length one) 1 one)
-    (both-right (leb 1 (length one)) (counts (length one) one && eachOnce (length one) 1 one) e)
-    in
-    ap join (from-same (length one) 1 p once ∙ ap (λ (k : ℕ). chunksFrom k 1 two) (length-same p))
+    ap join (from-same (length one) 1 p (complete-parts one e .once) ∙ ap (λ (k : ℕ). chunksFrom k 1 two) (length-same p))
 
 -- ---- complete segments are chunks numbered from 1 on, in some order
 
@@ -243,12 +260,8 @@ numbered-order c (suc k) i ss n cs e =
     (numbered-order c k (suc i) (others c k i ss n cs once later) (length-others c k i ss n cs once later) counted (once-others c k i ss n cs once later))
 
 pub complete-order : (ss : List Segment) → complete ss ≡ true → (1 ≤ length ss) × Permutation (numbered (length ss) 1 (chunksFrom (length ss) 1 ss)) ss
-unfolding complete
 complete-order ss e =
-    let on = both-right (leb 1 (length ss)) (counts (length ss) ss && eachOnce (length ss) 1 ss) e in (
-      leb-true 1 (length ss) (both-left (leb 1 (length ss)) _ e),
-      numbered-order (length ss) (length ss) 1 ss refl (both-left (counts (length ss) ss) _ on) (both-right (counts (length ss) ss) _ on),
-    )
+    let parts = complete-parts ss e in (parts .some-segment, numbered-order (length ss) (length ss) 1 ss refl (parts .counted) (parts .once))
 
 pub length-from : (k i : ℕ) (ss : List Segment) → length (chunksFrom k i ss) ≡ k
 unfolding chunksFrom

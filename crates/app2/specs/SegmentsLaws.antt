@@ -9,7 +9,7 @@ use Rattle.buffer.specs.All.{All, none, more}
 use Rattle.buffer.specs.Checked.{is}
 use Rattle.profile.specs.TagTypes.{join}
 use Rattle.app2.specs.Segments.{Segment, segmentBytes, bytes, cut, numbered, segments}
-use Rattle.app2.specs.Joining.{complete, joined}
+use Rattle.app2.specs.Joining.{joined}
 use Rattle.app2.specs.App2.{maxData, completeSegments}
 use Rattle.app2.specs.Permutation.{Permutation, none as no-member, same-first, swap, then}
 use Rattle.app2.specs.Properties.{Cut, last, whole, Short, Fits}

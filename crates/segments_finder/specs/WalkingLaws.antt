@@ -20,6 +20,7 @@ use Rattle.app2.specs.Segments.{Segment}
 use Rattle.app2.specs.Joining.{stated, begins, first, rest, before, parse, times, eachOnce, counts, complete, chunkOf}
 use Rattle.app2.specs.App2.{maxSegments}
 use Rattle.app2.specs.ParseLaws.{parse-nothing, parse-step, begins-parts}
+use Rattle.app2.specs.JoinLaws.{Complete, complete-parts, complete-whole}
 use Rattle.app2.specs.ChecksLaws.{Incomplete, complete-of, complete-not}
 use Rattle.segments_finder.specs.Found.{HasData, Found, Finds, beginsNew}
 use Rattle.segments_finder.specs.InsideLaws.{inside, times-append, inside-append, times-one, times-other, outside-one, inside-one, inside-none, inside-most, inside-once, inside-bound, once-inside, once-at}
@@ -47,26 +48,7 @@ next-of : (passed : List Segment) (s : Segment) (ss : List Segment) (o : Option 
 next-of passed s ss none e = let z : _≡_ {A = ℕ} 0 1 = cc in absurd (omega arith)
 next-of passed s ss (some ts) e = record { others = ts; all-is = cc }
 
--- ---- the parts of `complete`
-
-record Complete (ss : List Segment) : Type 0 where
-  some-segment : 1 ≤ length ss
-  counted : counts (length ss) ss ≡ true
-  once : eachOnce (length ss) 1 ss ≡ true
-
-complete-parts : (ss : List Segment) → complete ss ≡ true → Complete ss
-unfolding complete
-complete-parts ss e =
-    let on = both-right (leb 1 (length ss)) (counts (length ss) ss && eachOnce (length ss) 1 ss) e in
-    record {
-      some-segment = leb-true 1 (length ss) (both-left (leb 1 (length ss)) _ e);
-      counted = both-left (counts (length ss) ss) (eachOnce (length ss) 1 ss) on;
-      once = both-right (counts (length ss) ss) (eachOnce (length ss) 1 ss) on;
-    }
-
-complete-whole : (ss : List Segment) → Complete ss → complete ss ≡ true
-unfolding complete
-complete-whole ss h = rw (le-leb 1 (length ss) (h .some-segment), h .counted, h .once)
+-- ---- the count that complete segments state
 
 counts-append : (c : ℕ) (a d : List Segment) → counts c (a ++ d) ≡ (counts c a && counts c d)
 unfolding counts

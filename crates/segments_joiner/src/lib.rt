@@ -4,7 +4,6 @@ use app2::Output;
 use layout::MAX_LENGTH;
 use reader_checks::SHORTEST;
 use segments_finder::PLACES;
-ghost use mathlib.Core.Path.{_≡_};
 ghost use Prim.Native.Nat.{_≤_};
 ghost use lib.ListN.{length};
 ghost use Rattle.app2.specs.App2.{joinedFile, Gives};
