@@ -123,7 +123,7 @@ times-same i (then p q) = times-same i p ∙ times-same i q
 once-same : (k i : ℕ) {one two : List Segment} → Permutation one two → eachOnce k i one ≡ eachOnce k i two
 unfolding eachOnce
 once-same zero i p = refl
-once-same (suc k) i p = ap₂ (λ (x : ℕ) (y : Bool). eqb x 1 && y) (times-same i p) (once-same k (suc i) p)
+once-same (suc k) i p = rw (times-same i p, once-same k (suc i) p) refl
 
 -- a permutation of complete segments is complete
 pub complete-same : {one two : List Segment} → Permutation one two → complete one ≡ complete two

@@ -5,7 +5,7 @@ use mathlib.Core.List.{List, [], _∷_}
 use lib.ListN.{length}
 use Rattle.buffer.specs.All.{All}
 use Rattle.app2.specs.Segments.{Segment, bytes}
-use Rattle.app2.specs.App2.{maxData, maxSegments}
+use Rattle.app2.specs.App2.{maxData}
 
 -- chunks of n bytes each, the last alone shorter and not empty
 pub data Cut (n : ℕ) : List (List ℕ) → Type 0 where
@@ -24,8 +24,8 @@ pub record Parsed (b : List ℕ) (ss : List Segment) : Type 0 where
   pub fit : All Fits ss
   pub bytes-are : bytes ss ≡ b
 
--- a named size within its limits, of which the file needs no more than 255 segments: its length over the size, rounded up
+-- a named size within the limits of 02, of which the file needs no more than 255 segments: its length over the size, rounded up
 pub record Named (n : ℕ) (f : List ℕ) : Type 0 where
   pub low : 1 ≤ n
-  pub high : n ≤ maxData
-  pub few : (length f + (n - 1)) / n ≤ maxSegments
+  pub high : n ≤ 65519
+  pub few : (length f + (n - 1)) / n ≤ 255
