@@ -1,2 +1,3 @@
 pub mod Md5
 pub mod Md5Laws
+pub mod StateIn

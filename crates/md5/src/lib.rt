@@ -12,6 +12,7 @@ ghost use lib.ListN.{length, getD, take, drop, replicate};
 ghost use Rattle.buffer.specs.Buffer.{put};
 ghost use Rattle.md5_rounds.specs.Rounds.{sineParts};
 ghost use Rattle.md5.specs.Md5.{wordsOf, message, afterBlock, blockAt, afterBlocks, output, md5};
+ghost use Rattle.md5.specs.StateIn.{stateIn};
 
 // T[1 .. 64] (3.4).
 const SINEPARTS: [u32; 64] = [
@@ -121,18 +122,40 @@ fn block_words(data: &[u8], i: usize) -> [u32; 16]
     words
 }
 
-// All whole blocks of the data, one after the other. The data is read in place.
-fn process(data: &[u8], t: &[u32; 64], w: State) -> State
-    requires { ⌜ now t ≡ sineParts ⌝ }
-    ensures { λ r. ⌜ r ≡ afterBlocks (length (now («data» .entry)) / 64) (wordsOf (now («data» .entry))) w ⌝ }
+// The buffer's words A, B, C, D (3.3).
+fn state_in(buffer: &[u32]) -> State
+    requires { ⌜ length (now buffer) ≡ 4 ⌝ }
+    ensures { λ r. ⌜ r ≡ stateIn (now (buffer .entry)) ⌝ }
 {
-    let mut v = w;
+    State {
+        a: buffer[0],
+        b: buffer[1],
+        c: buffer[2],
+        d: buffer[3],
+    }
+}
+
+fn put_state(buffer: &mut [u32], w: State)
+    requires { ⌜ length (now buffer) ≡ 4 ⌝ }
+    ensures { λ _. ⌜ (length (now (buffer .exit)) ≡ 4) × (stateIn (now (buffer .exit)) ≡ w) ⌝ }
+{
+    buffer[0] = w.a;
+    buffer[1] = w.b;
+    buffer[2] = w.c;
+    buffer[3] = w.d;
+}
+
+// All whole blocks of the data, one after the other. The data is read in place. The buffer is lent and stored after each block: for the compiler that
+// may change the table, so that it reads a sine part where it is added and keeps no copies of all 64.
+fn process(data: &[u8], t: &[u32; 64], buffer: &mut [u32])
+    requires { ⌜ (now t ≡ sineParts) × (length (now buffer) ≡ 4) ⌝ }
+    ensures { λ _. ⌜ (length (now (buffer .exit)) ≡ 4) × (stateIn (now (buffer .exit)) ≡ afterBlocks (length (now («data» .entry)) / 64) (wordsOf (now («data» .entry))) (stateIn (now (buffer .entry)))) ⌝ }
+{
     let n = data.len() / 64;
     for i in 0..n {
         let words = block_words(data, i);
-        v = block(&words, t, v);
+        put_state(buffer, block(&words, t, state_in(buffer)));
     }
-    v
 }
 
 // The output (3.5).
@@ -185,15 +208,11 @@ fn pad(data: &[u8], tail: &mut [u8]) -> usize
 pub fn compute_md5(data: &[u8]) -> [u8; 16]
     ensures { λ r. ⌜ r ≡ md5 (now («data» .entry)) ⌝ }
 {
-    let buffer = State {
-        a: 0x67452301,
-        b: 0xefcdab89,
-        c: 0x98badcfe,
-        d: 0x10325476,
-    };
+    let mut buffer = [0x67452301, 0xefcdab89, 0x98badcfe, 0x10325476];
     let t = SINEPARTS;
-    let w = process(data, &t, buffer);
+    process(data, &t, &mut buffer);
     let mut tail = [0u8; TWO_BLOCKS];
     let end = pad(data, &mut tail);
-    digest(process(&tail[..end], &t, w))
+    process(&tail[..end], &t, &mut buffer);
+    digest(state_in(&buffer))
 }

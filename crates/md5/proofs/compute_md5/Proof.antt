@@ -12,42 +12,44 @@ use Rattle.md5.proofs.compute_md5.Tie as tie
 
 process-requires : tie.Need-process-requires
 unfolding sineParts
-process-requires c κs = refl
+process-requires c κs = (refl, refl)
 
-slice-aggregate-pad : tie.Need-slice-aggregate-pad
-slice-aggregate-pad c = search needs
+slice-aggregate-process-2 : tie.Need-slice-aggregate-process-2
+slice-aggregate-process-2 c =
+    let padded = c .before .before in
+    sym (length-take-le (padded .pad .result) (padded .pad .last .1 .0) (omega (arith, padded .pad .kept .1 .0)))
 
-pad-requires : tie.Need-pad-requires
-pad-requires c κs = search needs
-
-array-share-prefix-tail : tie.Need-array-share-prefix-tail
-array-share-prefix-tail c = search needs
-
-slice-aggregate-process : tie.Need-slice-aggregate-process
-slice-aggregate-process c = sym (length-take-le (c .before .before .pad .result) (c .before .before .pad .last .1 .0) (omega (arith, c .before .before .pad .kept .1 .0)))
+slice-aggregate-process-3 : tie.Need-slice-aggregate-process-3
+slice-aggregate-process-3 c = sym (c .before .before .before .before .before .before .before .process .ensures .0)
 
 process-requires-2 : tie.Need-process-requires-2
 unfolding sineParts
-process-requires-2 c κs = refl
-
-digest-requires : tie.Need-digest-requires
-digest-requires c κs = search needs
+process-requires-2 c κs = (refl, c .before .before .before .before .before .before .before .process .ensures .0)
 
 returns : tie.Need-returns
 returns c =
-    let m = c .before .before .before .before .before .before .before .before .before .before .args .«data» .now in
-    c .digest .ensures ∙ ap output (c .before .process2 .ensures ∙ ap (afterBlocks _ _) (c .before .before .before .before .before .before .before .process .ensures))
-    ∙ in-two m _ (c .before .before .before .before .before .pad .ensures .1)
+    let state = c .before in
+    let tail = state .before .before .before in
+    let padded = tail .before .before .before .before .before in
+    let whole = padded .before .before .before in
+    let m = whole .before .before .before .before .args .«data» .now in
+    c .digest .ensures
+    ∙ ap output (state .state-in .ensures ∙ tail .process2 .ensures .1 ∙ ap (afterBlocks _ _) (whole .process .ensures .1))
+    ∙ in-two m _ (padded .pad .ensures .1)
 
 pub compute-md5-spec : {M : Type 1} → statement M
 compute-md5-spec =
     tie.close
     (tie.spec
+    (λ c. search needs)
     process-requires
-    slice-aggregate-pad
-    pad-requires
-    array-share-prefix-tail
-    slice-aggregate-process
+    (λ c. search needs)
+    (λ c κs. search needs)
+    (λ c. search needs)
+    slice-aggregate-process-2
+    slice-aggregate-process-3
     process-requires-2
-    digest-requires
+    (λ c. search needs)
+    (λ c κs. search needs)
+    (λ c κs. search needs)
     returns)
