@@ -26,10 +26,10 @@
  * own.
  *
  * Stack. A call takes at most MERQYDUK_STACK bytes. Measured by host/stack.c, with arguments and memcpy:
- * merqyduk_write_gray 2,200, merqyduk_write_rgb 2,232, merqyduk_write_xyb 2,200, merqyduk_length_gray 928,
- * merqyduk_length_rgb 1,136, merqyduk_length_xyb 928, merqyduk_job 296, merqyduk_job_profile 2,360,
- * merqyduk_read 4,200, merqyduk_find 4,264, merqyduk_parse_description 712, merqyduk_write_segments 4,264,
- * merqyduk_join_segments 6,680. Not counted is the dynamic linker, which takes about 2,600 more where a program's
+ * merqyduk_write_gray 1,720, merqyduk_write_rgb 1,904, merqyduk_write_xyb 1,720, merqyduk_length_gray 928,
+ * merqyduk_length_rgb 1,136, merqyduk_length_xyb 928, merqyduk_job 296, merqyduk_job_profile 2,032,
+ * merqyduk_read 3,720, merqyduk_find 3,784, merqyduk_parse_description 712, merqyduk_write_segments 3,784,
+ * merqyduk_join_segments 6,200. Not counted is the dynamic linker, which takes about 2,600 more where a program's
  * first memcpy is looked up in the call; -Wl,-z,now has it looked up before.
  *
  * Platform: Linux on any x86-64 processor. The calls go by the floating-point environment that a program

@@ -5,7 +5,7 @@ use app2::MAX_DATA;
 use app2::MAX_SEGMENTS;
 use app2::Output;
 ghost use mathlib.Core.Path.{_≡_};
-ghost use Prim.Native.Nat.{_+_, _≤_};
+ghost use Prim.Native.Nat.{_+_, _-_, _*_, _/_, _≤_};
 ghost use lib.ListN.{length};
 ghost use Rattle.buffer.specs.Puts.{Puts, PutsText};
 ghost use Rattle.app2.specs.Segments.{front, segmentBytes, bytes, cut, segments};
@@ -48,6 +48,20 @@ fn put_segments(out: &mut [u8], file: &[u8], size: usize, count: usize) -> usize
     at
 }
 
+// How many segments hold n bytes. Counted, not divided: nothing in the library divides integers.
+fn segments_for(n: usize, size: usize) -> usize
+    requires { ⌜ (1 ≤ size) × (size ≤ maxData) × (n ≤ maxSegments * size) ⌝ }
+    ensures { λ r. ⌜ r ≡ (n + (size - 1)) / size ⌝ }
+{
+    let mut count = 0usize;
+    let mut held = 0usize;
+    while held < n {
+        held += size;
+        count += 1;
+    }
+    count
+}
+
 // Puts a file into segments of `size` bytes of data, to the front of the output. On a refusal no byte of the output changes.
 pub fn write_segments(file: &[u8], size: usize, out: &mut [u8]) -> Output
     ensures { λ r. ⌜ Gives (writtenSegments (now (file .entry)) size (length (now (out .entry)))) (now (out .entry)) (now (out .exit)) r ⌝ }
@@ -65,7 +79,7 @@ pub fn write_segments(file: &[u8], size: usize, out: &mut [u8]) -> Output
     if file.len() > MAX_SEGMENTS * size {
         return Output::Refused(app2::WRONG_SIZE);
     }
-    let count = (file.len() + (size - 1)) / size;
+    let count = segments_for(file.len(), size);
     if out.len() < file.len() + FRONT_SIZE * count {
         return Output::Refused(app2::TOO_SHORT);
     }

@@ -72,26 +72,39 @@ module _ (c : tie.Else4) where
   short : length all ≤ 5830
   short = omega (arith, long, named .few, accepted-bounds (file begun) (accepts begun) .1)
 
+segments-for-requires : tie.Need-segments-for-requires
+segments-for-requires c κs = (named c .low, named c .high, named-few _ _ (named c))
+
 mul-if5 : tie.Need-mul-if5
-mul-if5 c = omega (arith, named c .few)
+mul-if5 c = omega (arith, named (c .before) .few, c .segments-for .ensures)
 
 add-if5 : tie.Need-add-if5
-add-if5 c = omega (arith, named c .few)
+add-if5 c = omega (arith, named (c .before) .few, c .segments-for .ensures)
 
 returns-5 : tie.Need-returns-5
 returns-5 c =
-    let e = c .before in
-    let b = begun e in
-    gives-refusal (written-sized _ _ _ (accepts b) (named e) ∙ fitting-not _ (all e) (omega (arith, long e)))
+    let counted = c .before in
+    let e = counted .before in
+    gives-refusal (written-sized _ _ _ (accepts (begun e)) (named e) ∙ fitting-not _ (all e) (omega (arith, long e, counted .segments-for .ensures)))
 
 put-segments-requires : tie.Need-put-segments-requires
 put-segments-requires c κs =
-    let e = c .before .before in
-    (named e .low, named e .high, sym (cut-number (size (begun e)) (named e .low) (file (begun e))), named e .few, omega (arith, long e))
+    let counted = c .before .before in
+    let many = counted .segments-for .ensures in
+    let e = counted .before in (
+      named e .low,
+      named e .high,
+      many ∙ sym (cut-number (size (begun e)) (named e .low) (file (begun e))),
+      omega (arith, many, named e .few),
+      omega (arith, many, long e),
+    )
 
 module _ (c : tie.After-put-segments) where
+  abbrev counted : tie.After-segments-for
+  counted = c .before .before .before
+
   abbrev sized : tie.Else4
-  sized = c .before .before .before
+  sized = counted .before
 
   result-is : c .put-segments .result ≡ length (all sized)
   result-is = c .put-segments .ensures .place ∙ zero-add _
@@ -104,7 +117,7 @@ returns-6 c =
     let r = c .before .before in
     let e = sized r in
     let b = begun e in
-    gives-bytes (written-sized _ _ _ (accepts b) (named e) ∙ fitting-of _ (all e) (omega (arith, long e))) (result-is r) (r .put-segments .ensures .bytes)
+    gives-bytes (written-sized _ _ _ (accepts b) (named e) ∙ fitting-of _ (all e) (omega (arith, long e, counted r .segments-for .ensures))) (result-is r) (r .put-segments .ensures .bytes)
 
 pub write-segments-spec : {M : Type 1} → statement M
 write-segments-spec =
@@ -116,8 +129,7 @@ write-segments-spec =
     returns-3
     (λ c. search needs)
     returns-4
-    (λ c. search needs)
-    (λ c. search needs)
+    segments-for-requires
     mul-if5
     add-if5
     returns-5
