@@ -48,7 +48,8 @@ fn put_segments(out: &mut [u8], file: &[u8], size: usize, count: usize) -> usize
     at
 }
 
-// How many segments hold n bytes. Counted, not divided: nothing in the library divides integers.
+// How many segments hold n bytes. Counted as they are put, since nothing in the library divides integers; of a sum of sizes alone the compiler would make
+// a division.
 fn segments_for(n: usize, size: usize) -> usize
     requires { ⌜ (1 ≤ size) × (size ≤ maxData) × (n ≤ maxSegments * size) ⌝ }
     ensures { λ r. ⌜ r ≡ (n + (size - 1)) / size ⌝ }
@@ -56,7 +57,7 @@ fn segments_for(n: usize, size: usize) -> usize
     let mut count = 0usize;
     let mut held = 0usize;
     while held < n {
-        held += size;
+        held += app2::least(size, n - held);
         count += 1;
     }
     count
