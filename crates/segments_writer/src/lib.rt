@@ -5,7 +5,7 @@ use app2::MAX_DATA;
 use app2::MAX_SEGMENTS;
 use app2::Output;
 ghost use mathlib.Core.Path.{_≡_};
-ghost use Prim.Native.Nat.{_+_, _-_, _*_, _/_, _≤_};
+ghost use Prim.Native.Nat.{_+_, _-_, _*_, _/_, _^_, _≤_, _<_};
 ghost use lib.ListN.{length};
 ghost use Rattle.buffer.specs.Puts.{Puts, PutsText};
 ghost use Rattle.app2.specs.Segments.{front, segmentBytes, bytes, cut, segments};
@@ -48,19 +48,45 @@ fn put_segments(out: &mut [u8], file: &[u8], size: usize, count: usize) -> usize
     at
 }
 
-// How many segments hold n bytes. Counted as they are put, since nothing in the library divides integers; of a sum of sizes alone the compiler would make
-// a division.
+// Bytes that are left, and how many segments hold the others.
+struct Held {
+    left: usize,
+    count: usize,
+}
+
+// One binary digit of a quotient: `step` segments more, where so many bytes are left.
+fn held_by(h: Held, step: usize, size: usize) -> Held
+    requires { ⌜ (h .left < 2 * (step * size)) × (step * size ≤ 2 ^ 32) × (h .count + step ≤ maxSegments) ⌝ }
+    ensures { λ r. ⌜ (r .left < step * size) × (r .left + r .count * size ≡ h .left + h .count * size) × (r .count ≤ h .count + step) ⌝ }
+{
+    let part = step * size;
+    if h.left < part {
+        return h;
+    }
+    Held {
+        left: h.left - part,
+        count: h.count + step,
+    }
+}
+
+// How many segments hold n bytes: a quotient of eight binary digits, since nothing in the library divides integers.
 fn segments_for(n: usize, size: usize) -> usize
     requires { ⌜ (1 ≤ size) × (size ≤ maxData) × (n ≤ maxSegments * size) ⌝ }
     ensures { λ r. ⌜ r ≡ (n + (size - 1)) / size ⌝ }
 {
-    let mut count = 0usize;
-    let mut held = 0usize;
-    while held < n {
-        held += app2::least(size, n - held);
-        count += 1;
-    }
-    count
+    let h = Held {
+        left: n + (size - 1),
+        count: 0,
+    };
+    let h = held_by(h, 128, size);
+    let h = held_by(h, 64, size);
+    let h = held_by(h, 32, size);
+    let h = held_by(h, 16, size);
+    let h = held_by(h, 8, size);
+    let h = held_by(h, 4, size);
+    let h = held_by(h, 2, size);
+    let h = held_by(h, 1, size);
+    h.count
 }
 
 // Puts a file into segments of `size` bytes of data, to the front of the output. On a refusal no byte of the output changes.
