@@ -11,8 +11,8 @@
 
 using namespace merqyduk;
 
-// Data of a segment: with SOME the files are in 2, 3 and 4 segments, with FEW bytes in 11, 16 and 23, with the FEWEST in 66, 101 and 144.
-static const size_t SOME = 200, FEW = 32, FEWEST = 5;
+// Data of a segment: with SOME the files are in 2, 3 and 4 segments, with FEW bytes in 21, 32 and 45, with the FEWEST in 66, 101 and 144.
+static const size_t SOME = 200, FEW = 16, FEWEST = 5;
 
 // Nanoseconds for one of 200 calls.
 template <class F> static double turn(F f) {
