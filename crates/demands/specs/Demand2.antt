@@ -9,6 +9,7 @@ use native.Mathlib.Nat.{le-trans}
 use lib.ListN.{length}
 use Rattle.buffer.specs.Checked.{Checked, is, refused}
 use Rattle.buffer.specs.CheckedLaws.{Passes}
+use Rattle.numbers.specs.Rounded.{roundedIn, counted}
 use Rattle.color_encoding.specs.declared.RenderingIntent.the-variants.{Perceptual}
 use Rattle.color_encoding.specs.declared.JxlTransferFunction.the-variants as F
 use Rattle.color_encoding.specs.declared.JxlColorEncoding.{JxlColorEncoding}
@@ -16,6 +17,7 @@ use Rattle.color_encoding.specs.declared.JxlColorEncoding.the-variants.{RgbColo
 use Rattle.text.specs.Held.{HeldEncoding}
 use Rattle.profile.specs.Layout.{layout}
 use Rattle.encoding_plan.specs.PlanOf.{planOf}
+use Rattle.encoding_plan.specs.FixedFloats.{fixedFloats, countedPlan}
 use Rattle.validate.specs.Validate.{inRange, standsFor, validation, validateIccMatrix}
 use Rattle.validate.specs.declared.Validation.the-variants.{Valid}
 use Rattle.writer.specs.Writer.{answer, maxWritten}
@@ -34,15 +36,16 @@ pub record Acceptable (e : JxlColorEncoding) : Type 0 where
   -- XYB has the intent Perceptual
   pub intent : Ok2 e
 
--- what `maybe_create_profile` answers for an output of n bytes is a length
+-- what `maybe_create_profile` answers for an output of n bytes is a length, with the count of rounded numbers
 pub record Succeeds (e : JxlColorEncoding) (n : ℕ) : Type 0 where
   pub size : ℕ
-  pub answers : answer (planOf e) n ≡ Written size
+  pub rounded : ℕ
+  pub answers : answer (countedPlan e) n ≡ Written size rounded
 
 -- what it answers is a number that the answer of `validate_icc_matrix` stands for
 pub record RefusesAsNamed (e : JxlColorEncoding) (n : ℕ) : Type 0 where
   pub number : ℕ
-  pub answers : answer (planOf e) n ≡ Refused number
+  pub answers : answer (countedPlan e) n ≡ Refused number
   pub named : standsFor (validateIccMatrix e) number ≡ true
 
 -- ---- the theorems
@@ -61,7 +64,7 @@ succeeds-exactly-if e h n = (λ s. (acceptable e (has-plan e n (s .answers)), ha
     plan (XYB i) h a = xyb-plan-if i (a .intent)
 
     succeeds : Passes (planOf e) → Ok9 e n → Succeeds e n
-    succeeds p room = record { size = length (layout (p .value)); answers = written e n (p .given) (room (p .value) (p .given)) }
+    succeeds p room = record { size = length (layout (p .value)); rounded = roundedIn (fixedFloats e); answers = written e n (p .given) (room (p .value) (p .given)) }
 
 -- the floats of the encoding are binary32 values, as those of the code are
 pub enough-output : (e : JxlColorEncoding) → HeldEncoding e → (n : ℕ) → maxWritten ≤ n → Ok9 e n
@@ -78,4 +81,4 @@ refuses-as-named e h invalid n = go (inRange e) refl
     go : (c : Checked (Unit {0})) → inRange e ≡ c → RefusesAsNamed e n
     go (is u) r = absurd (invalid (ap validation r))
     go (refused k) r =
-        record { number = k; answers = ap (λ p. answer p n) (refuses e h r); named = ap (λ c. standsFor (validation c) k) r ∙ named e r }
+        record { number = k; answers = ap (λ p. answer (counted (fixedFloats e) p) n) (refuses e h r); named = ap (λ c. standsFor (validation c) k) r ∙ named e r }

@@ -16,6 +16,7 @@ use Rattle.buffer.specs.Checked.{Checked, is, refused, then, each}
 use Rattle.buffer.specs.CheckedLaws.{Passes, never, both, Refusing, refusing, by-then, by-cond}
 use Rattle.floats.specs.Binary32.{one}
 use Rattle.numbers.specs.Fixed.{s15Fixed16, fixedOr}
+use Rattle.numbers.specs.Rounded.{roundedIn, counted}
 use Rattle.numbers.specs.declared.fixed.S15Fixed16.{S15Fixed16}
 use Rattle.numbers.specs.declared.fixed.S15Fixed16.the-variants.{Number, OutOfRange}
 use Rattle.linalg.specs.Linalg.{component, rows, columns}
@@ -40,6 +41,7 @@ use Rattle.profile.specs.Layout.{layout}
 use Rattle.profile.specs.declared.Curve.{Curve}
 use Rattle.encoding_plan.specs.Answers.{reciprocalRefusal}
 use Rattle.encoding_plan.specs.PlanOf.{supported, curveOf, grayNumbers, chadNumbers, columnNumbers, planOf}
+use Rattle.encoding_plan.specs.FixedFloats.{fixedFloats, countedPlan}
 use Rattle.encoding_plan.specs.PlanOfLaws.{gray-plan, rgb-plan}
 use Rattle.encoding_curve.specs.declared.SupportedCurve.{SupportedCurve}
 use Rattle.encoding_curve.specs.declared.SupportedCurve.the-variants as Supported
@@ -85,7 +87,7 @@ each-tested n [] = refl
 each-tested n (x ∷ xs) = go (s15Fixed16 x) refl (each-tested n xs)
   where
     go : (s : S15Fixed16) → s15Fixed16 x ≡ s → passed (each (fixedOr n) xs) ≡ inRangeOr n xs → passed (each (fixedOr n) (x ∷ xs)) ≡ inRangeOr n (x ∷ xs)
-    go (Number z) h rest =
+    go (Number z w) h rest =
         let t : isS15Fixed16 x ≡ true = fixed-range x ∙ ap isNumber h in
         simp (h, t) (passed-cons z (each (fixedOr n) xs) ∙ rest)
     go OutOfRange h rest = let t : isS15Fixed16 x ≡ false = fixed-range x ∙ ap isNumber h in simp (h, t)
@@ -142,11 +144,11 @@ gray-tested w = go (cieXyzFromWhiteCieXy w) refl
   where
     two : (x z : Float) (s t : S15Fixed16) → s15Fixed16 x ≡ s → s15Fixed16 z ≡ t
         → passed {A = ℤ × ℤ} (then (fixedOr 7 x) (λ a. then (fixedOr 7 z) (λ b. is (a, b)))) ≡ inRangeOr 7 (x ∷ one ∷ z ∷ [])
-    two x z (Number a) (Number b) h g =
+    two x z (Number a v) (Number b w) h g =
         let tx : isS15Fixed16 x ≡ true = fixed-range x ∙ ap isNumber h in
         let tz : isS15Fixed16 z ≡ true = fixed-range z ∙ ap isNumber g in
         simp (h, g, tx, one-tested, tz)
-    two x z (Number a) OutOfRange h g =
+    two x z (Number a v) OutOfRange h g =
         let tx : isS15Fixed16 x ≡ true = fixed-range x ∙ ap isNumber h in
         let tz : isS15Fixed16 z ≡ false = fixed-range z ∙ ap isNumber g in
         simp (h, g, tx, one-tested, tz)
@@ -292,23 +294,26 @@ module _ (i : RenderingIntent) where
 
 -- ---- a plan is written exactly if the output has room for it
 
-pub written-not-refused : {k size : ℕ} → Refused k ≡ Written size → ⊥
+pub written-not-refused : {k size m : ℕ} → Refused k ≡ Written size m → ⊥
 written-not-refused e = let z : _≡_ {A = ℕ} 0 1 = cc in omega arith
 
 module _ (e : JxlColorEncoding) (n : ℕ) where
-  pub written : {p : Plan} → planOf e ≡ is p → length (layout p) ≤ n → answer (planOf e) n ≡ Written (length (layout p))
-  written {p} h room = ap (λ c. answer c n) h ∙ simp (le-leb _ _ room)
+  known : {c : Checked Plan} → planOf e ≡ c → answer (countedPlan e) n ≡ answer (counted (fixedFloats e) c) n
+  known h = ap (λ (c : Checked Plan). answer (counted (fixedFloats e) c) n) h
 
-  pub has-plan : {size : ℕ} → answer (planOf e) n ≡ Written size → Passes (planOf e)
+  pub written : {p : Plan} → planOf e ≡ is p → length (layout p) ≤ n → answer (countedPlan e) n ≡ Written (length (layout p)) (roundedIn (fixedFloats e))
+  written {p} h room = known h ∙ simp (le-leb _ _ room)
+
+  pub has-plan : {size k : ℕ} → answer (countedPlan e) n ≡ Written size k → Passes (planOf e)
   has-plan w = go (planOf e) refl
     where
       go : (c : Checked Plan) → planOf e ≡ c → Passes (planOf e)
       go (is p) h = record { value = p; given = h }
-      go (refused k) h = absurd (written-not-refused (sym (ap (λ c. answer c n) h) ∙ w))
+      go (refused k) h = absurd (written-not-refused (sym (known h) ∙ w))
 
-  pub has-room : {size : ℕ} → answer (planOf e) n ≡ Written size → (p : Plan) → planOf e ≡ is p → length (layout p) ≤ n
-  has-room {size} w p h = go (leb (length (layout p)) n) refl (sym (ap (λ c. answer c n) h) ∙ w)
+  pub has-room : {size k : ℕ} → answer (countedPlan e) n ≡ Written size k → (p : Plan) → planOf e ≡ is p → length (layout p) ≤ n
+  has-room {size} {k} w p h = go (leb (length (layout p)) n) refl (sym (known h) ∙ w)
     where
-      go : (b : Bool) → leb (length (layout p)) n ≡ b → cond b (Written (length (layout p))) (Refused tooShort) ≡ Written size → length (layout p) ≤ n
+      go : (b : Bool) → leb (length (layout p)) n ≡ b → cond b (Written (length (layout p)) (roundedIn (fixedFloats e))) (Refused tooShort) ≡ Written size k → length (layout p) ≤ n
       go true t g = leb→le (length (layout p)) n (Bools.holds t)
       go false t g = absurd (written-not-refused g)

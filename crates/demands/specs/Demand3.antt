@@ -12,6 +12,7 @@ use Rattle.profile.specs.Plan.{Plan, Valid}
 use Rattle.profile.specs.Shape.{minLength, maxLength}
 use Rattle.profile.specs.Layout.{layout}
 use Rattle.encoding_plan.specs.PlanOf.{planOf}
+use Rattle.encoding_plan.specs.FixedFloats.{fixedFloats}
 use Rattle.writer.specs.Writer.{Creates}
 use Rattle.writer.specs.declared.Profile.the-variants.{Written}
 use Rattle.writer_laws.specs.PlanValid.{plan-valid}
@@ -84,9 +85,9 @@ pub record WroteItsPlan (e : JxlColorEncoding) (n : ℕ) (after : List ℕ) : Ty
   pub read-back : (r : Reading) → Reads (take n after) r → told r ≡ is plan
 
 -- `maybe_create_profile` ensures `Creates`
-pub written : (e : JxlColorEncoding) (n : ℕ) (before after : List ℕ) → Creates e before after (Written n) → WroteItsPlan e n after
+pub written : (e : JxlColorEncoding) (n : ℕ) {k : ℕ} (before after : List ℕ) → Creates e before after (Written n k) → WroteItsPlan e n after
 written e n before after w =
-    let p = front-of (planOf e) n before after (w .writes) in
+    let p = front-of (fixedFloats e) (planOf e) before after (w .writes .answer) (w .writes .output) in
     let valid : Valid (p .0) = plan-valid e (w .held) (p .1) in
     record {
       plan = p .0;

@@ -8,6 +8,7 @@ use mathlib.Core.List.{List, []}
 use native.Mathlib.Omega.{arith}
 use borrow.Author.Tests.{le-leb, leb-true, ne-eqb}
 use lib.Dec.{eqb, leb}
+use lib.Ieee.{Float}
 use lib.ListN.{length, take, drop}
 use Rattle.buffer.specs.Buffer.{put}
 use Rattle.buffer.specs.BufferLaws.{put-after, take-put}
@@ -16,7 +17,8 @@ use Rattle.buffer.specs.CheckedLaws.{never}
 use Rattle.profile.specs.Plan.{Plan, Valid}
 use Rattle.profile.specs.Shape.{minLength, maxLength}
 use Rattle.profile.specs.Layout.{layout}
-use Rattle.writer.specs.Writer.{answer, output, Writes, tooShort}
+use Rattle.numbers.specs.Rounded.{roundedIn, counted}
+use Rattle.writer.specs.Writer.{answer, output, tooShort}
 use Rattle.writer.specs.declared.Profile.the-variants.{Written, Refused}
 use Rattle.reader_spec.specs.RefusalList.{Answer, Answers, Check, FirstFailing, checks, refused, accepted, refuses as by-list, number}
 use Rattle.reader_spec.specs.RefusalListLaws.{number-bounds}
@@ -158,16 +160,16 @@ module _ (f before after : List ℕ) (r : ℕ) (h : ReadsPlan (reading (read f))
 
 -- ---- the writer
 
-written-length : {n m : ℕ} → Written m ≡ Written n → m ≡ n
+written-length : {n m j k : ℕ} → Written m j ≡ Written n k → m ≡ n
 written-length e = cc
 
 -- a plan that was written is the front of the output
-pub front-of : (c : Checked Plan) (n : ℕ) (before after : List ℕ) → Writes (λ r. r) c before after (Written n)
+pub front-of : (xs : List Float) (c : Checked Plan) {n k : ℕ} (before after : List ℕ) → Written n k ≡ answer (counted xs c) (length before) → after ≡ output c before
     → (p : Plan) × (c ≡ is p) × (take n after ≡ layout p)
-front-of (refusedBy k) n before after w = absurd (written-not-refused (sym (w .answer)))
-front-of (is p) n before after w = (p, refl, go (leb (length (layout p)) (length before)) (sym (w .answer)) (w .output))
+front-of xs (refusedBy j) before after w o = absurd (written-not-refused (sym w))
+front-of xs (is p) {n} {k} before after w o = (p, refl, go (leb (length (layout p)) (length before)) (sym w) o)
   where
-    go : (b : Bool) → cond b (Written (length (layout p))) (Refused tooShort) ≡ Written n → after ≡ cond b (put before 0 (layout p)) before → take n after ≡ layout p
+    go : (b : Bool) → cond b (Written (length (layout p)) (roundedIn xs)) (Refused tooShort) ≡ Written n k → after ≡ cond b (put before 0 (layout p)) before → take n after ≡ layout p
     go true e o =
         ap (take n) o ∙ ap (λ (k : ℕ). take k (put before 0 (layout p))) (sym (written-length e))
         ∙ take-put before 0 (layout p) (length (layout p)) (omega arith) refl

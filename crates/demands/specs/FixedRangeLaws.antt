@@ -12,14 +12,14 @@ use lib.Ieee.Fits.{down-pos}
 use borrow.Author.Tests.{lt-ltb, le-ltb, eq-eqb, ne-eqb, le-leb, lt-leb}
 use Rattle.buffer.specs.BoolLaws.{and-true}
 use Rattle.floats.specs.Rounding.{halvesUp}
-use Rattle.numbers.specs.Fixed.{signed, largest, ofFraction, s15Fixed16}
+use Rattle.numbers.specs.Fixed.{signed, largest, wholeFraction, ofFraction, s15Fixed16}
 use Rattle.numbers.specs.declared.fixed.S15Fixed16.{S15Fixed16}
 use Rattle.numbers.specs.declared.fixed.S15Fixed16.the-variants.{Number, OutOfRange}
 use Rattle.validate.specs.Validate.{isS15Fixed16}
 
 -- a float has a fixed number, or none
 abbrev pub isNumber : S15Fixed16 → Bool
-isNumber (Number z) = true
+isNumber (Number z w) = true
 isNumber OutOfRange = false
 
 lt-or-ge : (a b : ℕ) → (a < b) ⊎ (b ≤ a)
@@ -62,11 +62,11 @@ scaled n d = go (lt-or-ge (16777213 * 1 * d) (n * 512))
     go (inr h) = let g : n * 65536 ≤ largest * d = omega arith in simp (le-leb _ _ h, le-leb _ _ g)
 
 is-number : (s : Bool) (num den : ℕ) → isNumber (ofFraction s num den) ≡ leb (num * 65536) (largest * den)
-is-number s num den = go (leb (num * 65536) (largest * den)) (signed s (halvesUp (num * 65536) den))
+is-number s num den = go (leb (num * 65536) (largest * den)) (signed s (halvesUp (num * 65536) den)) (wholeFraction num den)
   where
-    go : (t : Bool) (z : ℤ) → isNumber (cond t (Number z) OutOfRange) ≡ t
-    go true z = refl
-    go false z = refl
+    go : (t : Bool) (z : ℤ) (w : Bool) → isNumber (cond t (Number z w) OutOfRange) ≡ t
+    go true z w = refl
+    go false z w = refl
 
 pub fixed-range : (x : Float) → isS15Fixed16 x ≡ isNumber (s15Fixed16 x)
 unfolding s15Fixed16 le lt eq ofBits

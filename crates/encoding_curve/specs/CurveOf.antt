@@ -1,13 +1,18 @@
--- The curve of an encoding and its `cicp` value, or the refusal (01, the refusal list). Assumes nothing.
+-- The curve of an encoding and its `cicp` value, or the refusal (01, the refusal list); the floats that its fixed numbers are made from.
+-- Assumes nothing.
 use Prim.Native.Nat.{ℕ}
+use mathlib.Core.List.{List, [], _∷_}
+use lib.Ieee.{Float}
 use Rattle.floats.specs.Binary32.{_⊘_, one}
 use Rattle.numbers.specs.Fixed.{fixedOr}
+use Rattle.numbers.specs.Rounded.{Counted}
 use Rattle.color_encoding.specs.declared.JxlWhitePoint.{JxlWhitePoint}
 use Rattle.color_encoding.specs.declared.JxlWhitePoint.the-variants as W
 use Rattle.color_encoding.specs.declared.JxlPrimaries.{JxlPrimaries}
 use Rattle.color_encoding.specs.declared.JxlPrimaries.the-variants as P
 use Rattle.color_encoding.specs.declared.JxlTransferFunction.{JxlTransferFunction}
 use Rattle.color_encoding.specs.declared.JxlTransferFunction.the-variants as F
+use Rattle.profile.specs.FixedConstants.{parameterFloats}
 use Rattle.profile.specs.declared.CurveName.the-variants as Name
 use Rattle.profile.specs.declared.Curve.{Curve}
 use Rattle.profile.specs.declared.Curve.the-variants.{Named, Gamma}
@@ -35,8 +40,8 @@ checkedSupport S.Unsupported = unsupported
 abbrev pub reciprocalRefusal : ℕ
 reciprocalRefusal = 8
 
-abbrev pub checkedCurve : CurveAnswer → Checked Curve
-checkedCurve (C.Curve c) = is c
+abbrev pub checkedCurve : CurveAnswer → Checked (Counted Curve)
+checkedCurve (C.Curve c k) = is (record { value = c; rounded = k })
 checkedCurve C.OutOfRange = refused reciprocalRefusal
 
 -- ---- the curve
@@ -54,6 +59,11 @@ supported (F.Gamma g) = is (Supported.Gamma g)
 abbrev pub curveOf : SupportedCurve → Checked Curve
 curveOf (Supported.Named n) = is (Named n)
 curveOf (Supported.Gamma g) = then (fixedOr reciprocalRefusal (one ⊘ g)) (λ n. is (Gamma n))
+
+-- the floats of its numbers: g, a, b, c, d of function type 3, or g of function type 0
+abbrev pub curveFloats : SupportedCurve → List Float
+curveFloats (Supported.Named n) = parameterFloats n
+curveFloats (Supported.Gamma g) = one ⊘ g ∷ []
 
 -- ---- the `cicp` tag
 

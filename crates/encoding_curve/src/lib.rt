@@ -7,7 +7,9 @@ use profile::Cicp;
 use profile::Curve;
 use profile::CurveName;
 ghost use mathlib.Core.Path.{_≡_};
-ghost use Rattle.encoding_curve.specs.CurveOf.{checkedSupport, checkedCurve, supported, curveOf, cicpOf};
+ghost use Rattle.numbers.specs.Rounded.{roundedIn, counted};
+ghost use Rattle.profile.specs.FixedConstants.{parameterFloats};
+ghost use Rattle.encoding_curve.specs.CurveOf.{checkedSupport, checkedCurve, supported, curveOf, curveFloats, cicpOf};
 
 // A transfer function that a profile can have: a named curve, or a gamma g.
 pub enum SupportedCurve {
@@ -21,9 +23,9 @@ pub enum Support {
     Unsupported,
 }
 
-// A curve, or that a gamma's reciprocal does not fit.
+// A curve and how many of its numbers were rounded, or that a gamma's reciprocal does not fit.
 pub enum CurveAnswer {
-    Curve(Curve),
+    Curve { curve: Curve, rounded: u8 },
     OutOfRange,
 }
 
@@ -41,13 +43,31 @@ pub fn supported(transfer: JxlTransferFunction) -> Support
     }
 }
 
+// How many of the five numbers of a named curve are rounded.
+fn named_rounded(name: CurveName) -> u8
+    ensures { λ r. ⌜ r ≡ roundedIn (parameterFloats name) ⌝ }
+{
+    match name {
+        CurveName::BT709 => 5,
+        CurveName::Linear => 0,
+        CurveName::SRGB => 5,
+        CurveName::DCI => 1,
+    }
+}
+
 pub fn curve_of(curve: SupportedCurve) -> CurveAnswer
-    ensures { λ r. ⌜ checkedCurve r ≡ curveOf curve ⌝ }
+    ensures { λ r. ⌜ checkedCurve r ≡ counted (curveFloats curve) (curveOf curve) ⌝ }
 {
     match curve {
-        SupportedCurve::Named(name) => CurveAnswer::Curve(Curve::Named(name)),
+        SupportedCurve::Named(name) => CurveAnswer::Curve {
+            curve: Curve::Named(name),
+            rounded: named_rounded(name),
+        },
         SupportedCurve::Gamma(g) => match numbers::to_s15_fixed_16(1.0 / g) {
-            S15Fixed16::Number(n) => CurveAnswer::Curve(Curve::Gamma(n)),
+            S15Fixed16::Number { number, whole } => CurveAnswer::Curve {
+                curve: Curve::Gamma(number),
+                rounded: numbers::one_if_rounded(whole),
+            },
             S15Fixed16::OutOfRange => CurveAnswer::OutOfRange,
         },
     }

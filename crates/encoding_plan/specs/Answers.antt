@@ -3,6 +3,7 @@ use mathlib.Core.Bool.{cond}
 use lib.Dec.{eqb}
 use Rattle.buffer.specs.Checked.{Checked, is, refused}
 use Rattle.color_encoding.specs.declared.JxlColorEncoding.{JxlColorEncoding}
+use Rattle.numbers.specs.Rounded.{Counted}
 use Rattle.text.specs.Description.{description}
 use Rattle.profile.specs.Plan.{Plan}
 use Rattle.profile.specs.Numbers as Plans
@@ -10,5 +11,6 @@ pub use Rattle.encoding_curve.specs.CurveOf.{reciprocalRefusal}
 use Rattle.encoding_plan.specs.declared.EncodingPlan.{EncodingPlan}
 
 -- the plan of an encoding, whose description is its text
-abbrev pub checkedPlan : EncodingPlan → JxlColorEncoding → Checked Plan
-checkedPlan r e = cond (eqb (r .refusal) 0) (is (Plans.planOf (r .plan) (description e))) (refused (r .refusal))
+abbrev pub checkedPlan : EncodingPlan → JxlColorEncoding → Checked (Counted Plan)
+checkedPlan r e =
+    cond (eqb (r .refusal) 0) (is (record { value = Plans.planOf (r .plan) (description e); rounded = r .rounded })) (refused (r .refusal))

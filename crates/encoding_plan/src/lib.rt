@@ -8,13 +8,20 @@ use encoding_curve::CurveAnswer;
 use encoding_curve::Support;
 use profile::Numbers;
 ghost use mathlib.Core.Path.{_≡_};
-ghost use Rattle.encoding_plan.specs.PlanOf.{planOf};
+ghost use Rattle.encoding_plan.specs.FixedFloats.{countedPlan};
 ghost use Rattle.encoding_plan.specs.Answers.{checkedPlan};
 
-// A plan but for its text, or its refusal, which is 0 where there is none; then the plan means nothing.
+// How many of the three numbers of the white of the PCS are rounded, which is `wtpt` of RGB and XYB, and how many of the other numbers of XYB.
+const D50_ROUNDED: u32 = 2;
+
+const XYB_ROUNDED: u32 = 28;
+
+// A plan but for its text and how many of its fixed numbers were rounded, or its refusal, which is 0 where there is none; a refused plan and
+// its count mean nothing.
 pub struct EncodingPlan {
     pub refusal: u32,
     pub plan: Numbers,
+    pub rounded: u32,
 }
 
 fn refused(number: u32) -> EncodingPlan
@@ -24,6 +31,7 @@ fn refused(number: u32) -> EncodingPlan
     EncodingPlan {
         refusal: number,
         plan,
+        rounded: 0,
     }
 }
 
@@ -32,7 +40,7 @@ fn gray_plan(
     transfer: JxlTransferFunction,
     intent: RenderingIntent,
 ) -> EncodingPlan
-    ensures { λ r. ⌜ checkedPlan r (JxlColorEncoding.GrayscaleColorSpace white transfer intent) ≡ planOf (JxlColorEncoding.GrayscaleColorSpace white transfer intent) ⌝ }
+    ensures { λ r. ⌜ checkedPlan r (JxlColorEncoding.GrayscaleColorSpace white transfer intent) ≡ countedPlan (JxlColorEncoding.GrayscaleColorSpace white transfer intent) ⌝ }
 {
     match encoding_curve::supported(transfer) {
         Support::Unsupported => refused(1),
@@ -43,9 +51,13 @@ fn gray_plan(
             }
             match encoding_curve::curve_of(named_or_gamma) {
                 CurveAnswer::OutOfRange => refused(8),
-                CurveAnswer::Curve(curve) => {
+                CurveAnswer::Curve { curve, rounded } => {
                     let plan = profile::gray_numbers(intent.number(), curve, numbers.x, numbers.z);
-                    EncodingPlan { refusal: 0, plan }
+                    EncodingPlan {
+                        refusal: 0,
+                        plan,
+                        rounded: numbers.rounded as u32 + rounded as u32,
+                    }
                 }
             }
         }
@@ -58,7 +70,7 @@ fn rgb_plan(
     transfer: JxlTransferFunction,
     intent: RenderingIntent,
 ) -> EncodingPlan
-    ensures { λ r. ⌜ checkedPlan r (JxlColorEncoding.RgbColorSpace white primaries transfer intent) ≡ planOf (JxlColorEncoding.RgbColorSpace white primaries transfer intent) ⌝ }
+    ensures { λ r. ⌜ checkedPlan r (JxlColorEncoding.RgbColorSpace white primaries transfer intent) ≡ countedPlan (JxlColorEncoding.RgbColorSpace white primaries transfer intent) ⌝ }
 {
     match encoding_curve::supported(transfer) {
         Support::Unsupported => refused(1),
@@ -74,7 +86,7 @@ fn rgb_plan(
             }
             match encoding_curve::curve_of(named_or_gamma) {
                 CurveAnswer::OutOfRange => refused(8),
-                CurveAnswer::Curve(curve) => {
+                CurveAnswer::Curve { curve, rounded } => {
                     let cicp = encoding_curve::cicp_of(white, primaries, curve);
                     let chad_values = chad.values;
                     let column_values = columns.values;
@@ -85,7 +97,14 @@ fn rgb_plan(
                         chad_values,
                         column_values,
                     );
-                    EncodingPlan { refusal: 0, plan }
+                    EncodingPlan {
+                        refusal: 0,
+                        plan,
+                        rounded: D50_ROUNDED
+                            + chad.rounded as u32
+                            + columns.rounded as u32
+                            + rounded as u32,
+                    }
                 }
             }
         }
@@ -94,12 +113,16 @@ fn rgb_plan(
 
 // XYB has the one plan and the one intent.
 fn xyb_plan(intent: RenderingIntent) -> EncodingPlan
-    ensures { λ r. ⌜ checkedPlan r (JxlColorEncoding.XYB intent) ≡ planOf (JxlColorEncoding.XYB intent) ⌝ }
+    ensures { λ r. ⌜ checkedPlan r (JxlColorEncoding.XYB intent) ≡ countedPlan (JxlColorEncoding.XYB intent) ⌝ }
 {
     match intent {
         RenderingIntent::Perceptual => {
             let plan = profile::xyb_numbers(0);
-            EncodingPlan { refusal: 0, plan }
+            EncodingPlan {
+                refusal: 0,
+                plan,
+                rounded: D50_ROUNDED + XYB_ROUNDED,
+            }
         }
         RenderingIntent::Relative => refused(2),
         RenderingIntent::Saturation => refused(2),
@@ -108,7 +131,7 @@ fn xyb_plan(intent: RenderingIntent) -> EncodingPlan
 }
 
 pub fn plan_of(encoding: JxlColorEncoding) -> EncodingPlan
-    ensures { λ r. ⌜ checkedPlan r encoding ≡ planOf encoding ⌝ }
+    ensures { λ r. ⌜ checkedPlan r encoding ≡ countedPlan encoding ⌝ }
 {
     match encoding {
         JxlColorEncoding::RgbColorSpace {

@@ -4,11 +4,13 @@ use mathlib.Core.List.{List, [], _∷_, _++_}
 use lib.ListN.{length}
 use Rattle.buffer.specs.Ascii.{ascii}
 use Rattle.buffer.specs.Checked.{Checked, is, refused}
+use Rattle.numbers.specs.Rounded.{Counted}
 use Rattle.digits.specs.Digits.{digits}
 use Rattle.profile.specs.TagTypes.{join}
 use Rattle.profile.specs.Plan.{Plan}
 use Rattle.profile.specs.Layout.{layout}
 use Rattle.encoding_plan.specs.PlanOf.{planOf}
+use Rattle.encoding_plan.specs.FixedFloats.{countedPlan}
 use Rattle.writer.specs.declared.Profile.{Profile}
 use Rattle.writer.specs.declared.Profile.the-variants as P
 use Rattle.job.specs.declared.JobEntry.{JobEntry}
@@ -19,9 +21,9 @@ use Rattle.entry_output.specs.declared.Stream.the-variants as S
 
 -- ---- an entry with enough output
 
--- the length of its profile, or the refusal
-abbrev pub enough : Checked Plan → Profile
-enough (is p) = P.Written (length (layout p))
+-- what the writer answers
+abbrev pub enough : Checked (Counted Plan) → Profile
+enough (is p) = P.Written (length (layout (p .value))) (p .rounded)
 enough (refused k) = P.Refused k
 
 -- its profile; of a refused entry nothing
@@ -35,12 +37,12 @@ abbrev newline : List ℕ
 newline = 10 ∷ []
 
 abbrev pub lengthOrRefusal : Profile → List ℕ
-lengthOrRefusal (P.Written n) = digits n
+lengthOrRefusal (P.Written n k) = digits n
 lengthOrRefusal (P.Refused k) = ascii "refused " ++ digits k
 
 -- section, entry from 1, and length or refusal
 unfoldable pub entryLine : JobEntry → List ℕ
-entryLine e = join (digits (e .section) ∷ ascii " " ∷ digits (e .place) ∷ ascii " " ∷ lengthOrRefusal (enough (planOf (e .encoding))) ∷ newline ∷ [])
+entryLine e = join (digits (e .section) ∷ ascii " " ∷ digits (e .place) ∷ ascii " " ∷ lengthOrRefusal (enough (countedPlan (e .encoding))) ∷ newline ∷ [])
 
 -- the number of entries; of a bad job only its refusal
 unfoldable pub firstLine : JobAnswer → List ℕ

@@ -3,6 +3,7 @@ use Prim.Native.Nat.{ℕ, _+_, _-_, _≤_}
 use mathlib.Core.Path.{_≡_, refl, sym, ap, _∙_}
 use mathlib.Core.List.{List, [], _∷_, _++_, append-assoc, append-nil}
 use native.Mathlib.Omega.{arith}
+use lib.Ieee.{Float}
 use borrow.Author.Tests.{le-leb}
 use lib.ListN.{length, take, drop, replicate, length-append, length-replicate, length-drop, take-append-drop}
 use lib.Seq.{take-at, take-all, drop-length}
@@ -13,12 +14,14 @@ use Rattle.buffer.specs.Puts.{PutsText}
 use Rattle.buffer.specs.BufferLaws.{length-put, put-nothing, put-behind}
 use Rattle.buffer.specs.PutsLaws.{in-front}
 use Rattle.color_encoding.specs.declared.JxlColorEncoding.{JxlColorEncoding}
+use Rattle.numbers.specs.Rounded.{counted}
 use Rattle.digits.specs.DigitsLaws.{length-digits}
 use Rattle.text.specs.Held.{HeldEncoding}
 use Rattle.profile.specs.TagTypes.{join}
 use Rattle.profile.specs.Plan.{Plan}
 use Rattle.profile.specs.Layout.{layout}
 use Rattle.encoding_plan.specs.PlanOf.{planOf}
+use Rattle.encoding_plan.specs.FixedFloats.{fixedFloats, countedPlan}
 use Rattle.writer.specs.Writer.{answer, output, maxWritten}
 use Rattle.writer.specs.declared.Profile.{Profile}
 use Rattle.writer.specs.declared.Profile.the-variants as P
@@ -42,27 +45,27 @@ profile-most e h = go (planOf e) refl
     go (refused k) q = omega arith
 
 -- an output with room for the profile
-room-answer : (c : Checked Plan) (n : ℕ) → length (profileBytes c) ≤ n → answer c n ≡ enough c
-room-answer (is p) n h = rw (le-leb (length (layout p)) n h)
-room-answer (refused k) n h = refl
+room-answer : (xs : List Float) (c : Checked Plan) (n : ℕ) → length (profileBytes c) ≤ n → answer (counted xs c) n ≡ enough (counted xs c)
+room-answer xs (is p) n h = rw (le-leb (length (layout p)) n h)
+room-answer xs (refused k) n h = refl
 
-pub enough-answer : (e : JxlColorEncoding) → HeldEncoding e → (n : ℕ) → maxWritten ≤ n → answer (planOf e) n ≡ enough (planOf e)
-enough-answer e h n g = room-answer (planOf e) n (omega (arith, profile-most e h))
+pub enough-answer : (e : JxlColorEncoding) → HeldEncoding e → (n : ℕ) → maxWritten ≤ n → answer (countedPlan e) n ≡ enough (countedPlan e)
+enough-answer e h n g = room-answer (fixedFloats e) (planOf e) n (omega (arith, profile-most e h))
 
-pub small-answer : (e : JxlColorEncoding) → HeldEncoding e → Small (enough (planOf e))
+pub small-answer : (e : JxlColorEncoding) → HeldEncoding e → Small (enough (countedPlan e))
 small-answer e h = go (planOf e) refl
   where
-    go : (c : Checked Plan) → planOf e ≡ c → Small (enough c)
+    go : (c : Checked Plan) → planOf e ≡ c → Small (enough (counted (fixedFloats e) c))
     go (is p) q = omega (arith, written-length e h q .1)
     go (refused k) q = omega (arith, refusal-number e q .1)
 
-pub written-is : (c : Checked Plan) {n : ℕ} → enough c ≡ P.Written n → n ≡ length (profileBytes c)
-written-is (is p) h = cc
-written-is (refused k) h = let zero-one : _≡_ {A = ℕ} 0 1 = cc in absurd (omega arith)
+pub written-is : (xs : List Float) (c : Checked Plan) {n k : ℕ} → enough (counted xs c) ≡ P.Written n k → n ≡ length (profileBytes c)
+written-is xs (is p) h = cc
+written-is xs (refused k) h = let zero-one : _≡_ {A = ℕ} 0 1 = cc in absurd (omega arith)
 
-pub refused-is : (c : Checked Plan) {k : ℕ} → enough c ≡ P.Refused k → 0 ≡ length (profileBytes c)
-refused-is (is p) h = let zero-one : _≡_ {A = ℕ} 0 1 = cc in absurd (omega arith)
-refused-is (refused k) h = refl
+pub refused-is : (xs : List Float) (c : Checked Plan) {k : ℕ} → enough (counted xs c) ≡ P.Refused k → 0 ≡ length (profileBytes c)
+refused-is xs (is p) h = let zero-one : _≡_ {A = ℕ} 0 1 = cc in absurd (omega arith)
+refused-is xs (refused k) h = refl
 
 -- ---- how long the parts of a line are
 
@@ -70,7 +73,7 @@ pub length-place : (s k : ℕ) → s ≤ 3 → k ≤ 255 → length (placeText s
 length-place s k a b = simp length-append (omega (arith, length-digits 0 s (omega arith), length-digits 2 k (omega arith)))
 
 pub length-answer : (a : Profile) → Small a → length (lengthOrRefusal a) ≤ 12
-length-answer (P.Written n) h = omega (arith, length-digits 3 n h)
+length-answer (P.Written n k) h = omega (arith, length-digits 3 n h)
 length-answer (P.Refused k) h = simp length-append (omega (arith, length-digits 3 k h))
 
 pub length-first : (a : JobAnswer) → SmallAnswer a → length (firstText a) ≤ 16
@@ -79,7 +82,7 @@ length-first (A.Refused k) h = simp length-append (omega (arith, length-digits 3
 
 -- ---- lines
 
-pub entryLine-is : (e : JobEntry) → entryLine e ≡ placeText (e .section) (e .place) ++ lengthOrRefusal (enough (planOf (e .encoding))) ++ (10 ∷ [])
+pub entryLine-is : (e : JobEntry) → entryLine e ≡ placeText (e .section) (e .place) ++ lengthOrRefusal (enough (countedPlan (e .encoding))) ++ (10 ∷ [])
 unfolding entryLine join
 entryLine-is e = simp append-assoc
 
@@ -119,8 +122,8 @@ module _ (l : List ℕ) (at : ℕ) where
       let past : drop (length l - at) (drop at l) ≡ [] = ap (λ (k : ℕ). drop k (drop at l)) (sym (length-drop at l)) ∙ drop-length (drop at l) in
       ap (λ (r : List ℕ). take at l ++ (y ++ r)) past ∙ ap (λ (r : List ℕ). take at l ++ r) (append-nil y)
 
-  pub lent-answer : (c : Checked Plan) → at + length (profileBytes c) ≤ length l → answer c (length lent) ≡ enough c
-  lent-answer c h = room-answer c (length lent) (rw (lent-is (omega arith), length-drop) (omega arith))
+  pub lent-answer : (xs : List Float) (c : Checked Plan) → at + length (profileBytes c) ≤ length l → answer (counted xs c) (length lent) ≡ enough (counted xs c)
+  lent-answer xs c h = room-answer xs c (length lent) (rw (lent-is (omega arith), length-drop) (omega arith))
 
   pub lent-output : (c : Checked Plan) → at + length (profileBytes c) ≤ length l → putMid at (length l - at) l (output c lent) ≡ put l at (profileBytes c)
   lent-output (is p) h =

@@ -20,5 +20,5 @@ pub record Measures (bytes : List ℕ) (n r : ℕ) : Type 0 where
 
 -- a number of up to four digits
 abbrev pub Small : Profile → Type 0
-Small (P.Written n) = n < 10 ^ 4
+Small (P.Written n k) = n < 10 ^ 4
 Small (P.Refused k) = k < 10 ^ 4

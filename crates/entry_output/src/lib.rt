@@ -13,6 +13,7 @@ ghost use Prim.Native.Nat.{_+_, _≤_};
 ghost use lib.ListN.{length, take};
 ghost use Rattle.buffer.specs.Puts.{PutsText};
 ghost use Rattle.encoding_plan.specs.PlanOf.{planOf};
+ghost use Rattle.encoding_plan.specs.FixedFloats.{countedPlan};
 ghost use Rattle.writer.specs.Writer.{maxWritten};
 ghost use Rattle.job.specs.Bounds.{EntryBounds};
 ghost use Rattle.line_text.specs.LineText.{SmallAnswer};
@@ -33,7 +34,7 @@ pub struct Line {
 
 // The length of the profile of an encoding, or the refusal.
 fn measure(encoding: JxlColorEncoding) -> Profile
-    ensures { λ r. ⌜ r ≡ enough (planOf encoding) ⌝ }
+    ensures { λ r. ⌜ r ≡ enough (countedPlan encoding) ⌝ }
 {
     writer::profile_length(encoding, MAX_WRITTEN)
 }
@@ -43,7 +44,10 @@ fn put_answer(out: &mut [u8], at: usize, answer: Profile) -> usize
     ensures { λ r. ⌜ PutsText (now (out .entry)) at (lengthOrRefusal answer) r (now (out .exit)) ⌝ }
 {
     match answer {
-        Profile::Written(n) => digits::put_up_to_four(out, at, n as u64),
+        Profile::Written {
+            length: n,
+            rounded: _,
+        } => digits::put_up_to_four(out, at, n as u64),
         Profile::Refused(k) => put_worded(out, at, b"refused ", k),
     }
 }
@@ -90,7 +94,10 @@ fn put_profile(out: &mut [u8], at: usize, encoding: JxlColorEncoding) -> usize
     ensures { λ r. ⌜ PutsText (now (out .entry)) at (profileBytes (planOf encoding)) r (now (out .exit)) ⌝ }
 {
     match writer::maybe_create_profile(encoding, &mut out[at..]) {
-        Profile::Written(n) => at + n as usize,
+        Profile::Written {
+            length: n,
+            rounded: _,
+        } => at + n as usize,
         Profile::Refused(_) => at,
     }
 }
@@ -106,7 +113,10 @@ pub fn part_length(stream: Stream, entry: JobEntry) -> usize
             line.len
         }
         Stream::Profiles => match measure(encoding) {
-            Profile::Written(n) => n as usize,
+            Profile::Written {
+                length: n,
+                rounded: _,
+            } => n as usize,
             Profile::Refused(_) => 0,
         },
     }

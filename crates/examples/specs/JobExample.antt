@@ -1,10 +1,12 @@
 -- The job of 44 bytes that 01 shows, evaluated on the definitions: its entries, and its listing. Assumes nothing.
 use Prim.Native.Nat.{ℕ}
-use mathlib.Core.Path.{_≡_, refl, ap, _∙_}
+use mathlib.Core.Path.{_≡_, refl, ap, ap₂, _∙_}
 use mathlib.Core.List.{List, [], _∷_, _++_}
 use lib.Ieee.{size}
 use Rattle.buffer.specs.Ascii.{ascii}
-use Rattle.buffer.specs.Checked.{is, refused}
+use Rattle.buffer.specs.Checked.{Checked, is, refused}
+use Rattle.numbers.specs.Rounded.{counted}
+use Rattle.profile.specs.Plan.{Plan}
 use Rattle.words.specs.Words.{word32}
 use Rattle.color_encoding.specs.declared.RenderingIntent.the-variants.{Perceptual, Relative}
 use Rattle.color_encoding.specs.declared.JxlColorEncoding.the-variants.{XYB}
@@ -15,13 +17,14 @@ use Rattle.profile.specs.Elements.{fileLength, start, bodySize, tagCount, paddi
 use Rattle.profile.specs.Shape.{slotsOf}
 use Rattle.profile.specs.LayoutLaws.{length-layout}
 use Rattle.encoding_plan.specs.PlanOf.{planOf}
+use Rattle.encoding_plan.specs.FixedFloats.{fixedFloats, countedPlan}
 use Rattle.writer.specs.declared.Profile.the-variants.{Written, Refused}
 use Rattle.job_entry.specs.Entry.{grayEncoding, rgbEncoding, xybEncoding}
 use Rattle.job.specs.Job.{entriesFrom, cut, job}
 use Rattle.job.specs.declared.JobEntry.{JobEntry}
 use Rattle.entry_output.specs.EntryOutput.{enough, firstLine, entryLine}
 use Rattle.job_output.specs.JobOutput.{outputOf, listing}
-use Rattle.examples.specs.SheetsLaws.{srgb, srgbPlan, perceptual-plan}
+use Rattle.examples.specs.SheetsLaws.{srgb, srgbPlan, perceptual-plan, srgb-count}
 
 -- no gray entry; the sRGB entry: white, primaries, curve and intent; one XYB entry, Relative
 abbrev job44 : List ℕ
@@ -34,11 +37,13 @@ pub job-44 : job 1 job44 ≡ is entries44
 unfolding job cut entriesFrom grayEncoding rgbEncoding xybEncoding word32
 job-44 = refl
 
-first : enough (planOf (srgb Perceptual)) ≡ Written 504
+first : enough (countedPlan (srgb Perceptual)) ≡ Written 504 24
 unfolding slotsOf fileLength start bodySize tagCount padding
-first = ap enough perceptual-plan ∙ ap Written (length-layout (srgbPlan 0 (ascii "sRGB")) (refl, refl))
+first =
+    ap (λ (p : Checked Plan). enough (counted (fixedFloats (srgb Perceptual)) p)) perceptual-plan
+    ∙ ap₂ Written (length-layout (srgbPlan 0 (ascii "sRGB")) (refl, refl)) (srgb-count Perceptual)
 
-second : enough (planOf (XYB Relative)) ≡ Refused 2
+second : enough (countedPlan (XYB Relative)) ≡ Refused 2
 unfolding planOf
 second = refl
 

@@ -1,6 +1,7 @@
 -- The cases of the joint table, one by one, evaluated on the definitions. Assumes nothing.
 use Prim.Native.Nat.{ℕ}
 use mathlib.Core.Path.{_≡_, refl, ap, _∙_}
+use mathlib.Core.Bool.{true, false}
 use mathlib.Core.List.{List, [], _∷_}
 use lib.IntN.{ℤ, pos, negsuc}
 use lib.Ieee.{Float, binary32, ofBits, size, neg, lt, le, eq, add, sub, mul, div}
@@ -8,7 +9,8 @@ use lib.ListN.{length}
 use native.Mathlib.Nat.{le-refl}
 use borrow.Author.Tests.{le-leb}
 use Rattle.buffer.specs.Ascii.{ascii}
-use Rattle.numbers.specs.Fixed.{s15Fixed16}
+use Rattle.numbers.specs.Fixed.{s15Fixed16, whole}
+use Rattle.numbers.specs.Rounded.{roundedIn, counted}
 use Rattle.numbers.specs.declared.fixed.S15Fixed16.the-variants.{Number, OutOfRange}
 use Rattle.color_encoding.specs.declared.RenderingIntent.the-variants.{Perceptual, Relative}
 use Rattle.color_encoding.specs.declared.RenderingIntent.{RenderingIntent}
@@ -40,6 +42,8 @@ use Rattle.profile.specs.declared.Curve.the-variants.{Named}
 use Rattle.profile.specs.declared.Cicp.the-variants.{Primaries}
 use Rattle.buffer.specs.Checked.{Checked, is}
 use Rattle.encoding_plan.specs.PlanOf.{planOf}
+use Rattle.encoding_plan.specs.FixedFloats.{fixedFloats, countedPlan}
+use Rattle.encoding_plan.specs.FixedFloatsLaws.{xyb-count}
 use Rattle.writer.specs.Writer.{answer}
 use Rattle.writer.specs.declared.Profile.the-variants.{Written}
 
@@ -49,12 +53,12 @@ b32 n = ofBits binary32 n
 -- ---- fixed numbers
 
 -- 1.0
-pub one : s15Fixed16 (b32 0x3f80_0000) ≡ Number (pos 65536)
+pub one : s15Fixed16 (b32 0x3f80_0000) ≡ Number (pos 65536) true
 unfolding s15Fixed16 ofBits
 one = refl
 
 -- 32767.994140625, and the next f32 up
-pub largest : s15Fixed16 (b32 0x46ff_fffd) ≡ Number (pos 2147483264)
+pub largest : s15Fixed16 (b32 0x46ff_fffd) ≡ Number (pos 2147483264) true
 unfolding s15Fixed16 ofBits
 largest = refl
 
@@ -63,16 +67,16 @@ unfolding s15Fixed16 ofBits
 too-large = refl
 
 -- two to the -17, and negated: halves go away from zero
-pub half : s15Fixed16 (b32 0x3700_0000) ≡ Number (pos 1)
+pub half : s15Fixed16 (b32 0x3700_0000) ≡ Number (pos 1) false
 unfolding s15Fixed16 ofBits
 half = refl
 
-pub minus-half : s15Fixed16 (b32 0xb700_0000) ≡ Number (negsuc 0)
+pub minus-half : s15Fixed16 (b32 0xb700_0000) ≡ Number (negsuc 0) false
 unfolding s15Fixed16 ofBits
 minus-half = refl
 
 -- 2.4
-pub srgb-gamma : s15Fixed16 (b32 0x4019_999a) ≡ Number (pos 157286)
+pub srgb-gamma : s15Fixed16 (b32 0x4019_999a) ≡ Number (pos 157286) false
 unfolding s15Fixed16 ofBits
 srgb-gamma = refl
 
@@ -108,9 +112,9 @@ chadD65 = pos 68672 ∷ pos 1501 ∷ negsuc 3286 ∷ pos 1938 ∷ pos 64912 ∷ 
 abbrev columnsSrgb : List ℤ
 columnsSrgb = pos 28575 ∷ pos 14581 ∷ pos 912 ∷ pos 25238 ∷ pos 46983 ∷ pos 6363 ∷ pos 9378 ∷ pos 3973 ∷ pos 46806 ∷ []
 
--- the length of a plan that is known
-exact : {q : Checked Plan} (p : Plan) (n : ℕ) → q ≡ is p → length (layout p) ≡ n → answer q n ≡ Written n
-exact p n h e = ap (λ (c : Checked Plan). answer c n) h ∙ simp (e, le-leb n n (le-refl n))
+-- the length of a plan that is known, and the count
+exact : (e : JxlColorEncoding) (p : Plan) (n k : ℕ) → planOf e ≡ is p → length (layout p) ≡ n → roundedIn (fixedFloats e) ≡ k → answer (countedPlan e) n ≡ Written n k
+exact e p n k h l c = ap (λ (q : Checked Plan). answer (counted (fixedFloats e) q) n) h ∙ simp (l, c, le-leb n n (le-refl n))
 
 abbrev pub srgbPlan : ℕ → List ℕ → Plan
 srgbPlan i t =
@@ -120,17 +124,22 @@ pub perceptual-plan : planOf (srgb Perceptual) ≡ is (srgbPlan 0 (ascii "sRGB")
 unfolding planOf description rgbDescription chadMatrix adaptToXyzD50 adaptationMatrix adaptable inRange finite finiteXyz whiteXyz hasZero allFinite lms gains narrowed createIccRgbMatrix primariesToXyzD50 primariesToXyz primariesMatrix scaledPrimaries singular inverse adjugate determinant cofactors cofactor minor abs applied product dot narrow s15Fixed16 ofBits neg eq lt le add sub mul div
 perceptual-plan = refl
 
-pub perceptual-504 : answer (planOf (srgb Perceptual)) 504 ≡ Written 504
+-- all but the Y of `wtpt` and the Z of blue, whatever the intent
+pub srgb-count : (i : RenderingIntent) → roundedIn (fixedFloats (srgb i)) ≡ 24
+unfolding fixedFloats roundedIn whole chadMatrix adaptToXyzD50 adaptationMatrix adaptable inRange finite finiteXyz whiteXyz hasZero allFinite lms gains narrowed createIccRgbMatrix primariesToXyzD50 primariesToXyz primariesMatrix scaledPrimaries singular inverse adjugate determinant cofactors cofactor minor abs applied product dot narrow ofBits neg eq lt le add sub mul div
+srgb-count i = refl
+
+pub perceptual-504 : answer (countedPlan (srgb Perceptual)) 504 ≡ Written 504 24
 unfolding slotsOf fileLength start bodySize tagCount padding
-perceptual-504 = exact _ 504 perceptual-plan (length-layout (srgbPlan 0 (ascii "sRGB")) (refl, refl))
+perceptual-504 = exact _ _ 504 24 perceptual-plan (length-layout (srgbPlan 0 (ascii "sRGB")) (refl, refl)) (srgb-count Perceptual)
 
 pub relative-plan : planOf (srgb Relative) ≡ is (srgbPlan 1 (ascii "RGB_D65_SRG_Rel_SRG"))
 unfolding planOf description rgbDescription rgbText whiteName primariesName transferName chadMatrix adaptToXyzD50 adaptationMatrix adaptable inRange finite finiteXyz whiteXyz hasZero allFinite lms gains narrowed createIccRgbMatrix primariesToXyzD50 primariesToXyz primariesMatrix scaledPrimaries singular inverse adjugate determinant cofactors cofactor minor abs applied product dot narrow s15Fixed16 ofBits neg eq lt le add sub mul div
 relative-plan = refl
 
-pub relative-536 : answer (planOf (srgb Relative)) 536 ≡ Written 536
+pub relative-536 : answer (countedPlan (srgb Relative)) 536 ≡ Written 536 24
 unfolding slotsOf fileLength start bodySize tagCount padding
-relative-536 = exact _ 536 relative-plan (length-layout (srgbPlan 1 (ascii "RGB_D65_SRG_Rel_SRG")) (refl, refl))
+relative-536 = exact _ _ 536 24 relative-plan (length-layout (srgbPlan 1 (ascii "RGB_D65_SRG_Rel_SRG")) (refl, refl)) (srgb-count Relative)
 
 abbrev grayD65 : Plan
 grayD65 =
@@ -140,13 +149,18 @@ pub gray-plan : planOf (GrayscaleColorSpace W.D65 F.SRGB Relative) ≡ is grayD6
 unfolding planOf description grayText whiteName transferName cieXyzFromWhiteCieXy abs s15Fixed16 ofBits neg eq lt le add sub mul div
 gray-plan = refl
 
-pub gray-328 : answer (planOf (GrayscaleColorSpace W.D65 F.SRGB Relative)) 328 ≡ Written 328
+-- all but the Y of `wtpt`
+gray-count : roundedIn (fixedFloats (GrayscaleColorSpace W.D65 F.SRGB Relative)) ≡ 7
+unfolding fixedFloats roundedIn whole cieXyzFromWhiteCieXy abs ofBits neg eq lt le add sub mul div
+gray-count = refl
+
+pub gray-328 : answer (countedPlan (GrayscaleColorSpace W.D65 F.SRGB Relative)) 328 ≡ Written 328 7
 unfolding slotsOf fileLength start bodySize tagCount padding
-gray-328 = exact _ 328 gray-plan (length-layout grayD65 tt)
+gray-328 = exact _ _ 328 7 gray-plan (length-layout grayD65 tt) gray-count
 
 abbrev xybPlan : Plan
 xybPlan = record { intent = 0; content = xyb }
 
-pub xyb-720 : answer (planOf (XYB Perceptual)) 720 ≡ Written 720
+pub xyb-720 : answer (countedPlan (XYB Perceptual)) 720 ≡ Written 720 30
 unfolding planOf slotsOf fileLength start bodySize tagCount padding
-xyb-720 = exact xybPlan 720 refl (length-layout xybPlan tt)
+xyb-720 = exact (XYB Perceptual) xybPlan 720 30 refl (length-layout xybPlan tt) (xyb-count Perceptual)

@@ -10,9 +10,10 @@ use lib.ListN.{length}
 use Rattle.buffer.specs.Buffer.{put}
 use Rattle.buffer.specs.Checked.{Checked, is, refused, valueOr, then}
 use Rattle.color_encoding.specs.declared.JxlColorEncoding.{JxlColorEncoding}
-use Rattle.encoding_plan.specs.PlanOf.{planOf}
+use Rattle.encoding_plan.specs.FixedFloats.{countedPlan}
 use Rattle.profile.specs.Elements.{Entry}
-use Rattle.writer.specs.Writer.{tooShort, answer, number, profileBy, Writes}
+use Rattle.writer.specs.Writer.{tooShort, answer, number, countAfter, profileBy, Writes}
+use Rattle.writer.specs.declared.Profile.{Profile}
 use Rattle.job.specs.declared.JobAnswer.{JobAnswer}
 use Rattle.job.specs.declared.JobAnswer.the-variants as A
 use Rattle.job_output.specs.declared.JobProfile.{JobProfile}
@@ -24,15 +25,28 @@ use Rattle.app2.specs.App2 as App2
 
 -- ---- the profile of an encoding that comes by codes
 
--- the writer's promise, with its answer as one number, which tells that answer
-pub record WritesCode (c : Checked JxlColorEncoding) (before after : List ℕ) (r : ℕ) : Type 0 where
-  pub writes : Writes number (then c planOf) before after r
-  pub told : profileBy r ≡ answer (then c planOf) (length before)
+-- the writer's answer to what the codes mean, on an output of n bytes
+abbrev pub codeAnswer : Checked JxlColorEncoding → ℕ → Profile
+codeAnswer c n = answer (then c countedPlan) n
 
--- the writer's answer on an output of n bytes, as one number, which tells it
+-- the writer's promise, with its answer as one number, which tells that answer but for its count
+pub record WritesCode (c : Checked JxlColorEncoding) (before after : List ℕ) (r : ℕ) : Type 0 where
+  pub writes : Writes number c before after r
+  pub told : (k : ℕ) → profileBy r (countAfter (codeAnswer c (length before)) k) ≡ codeAnswer c (length before)
+
+-- the writer's answer on an output of n bytes, as one number, which tells it but for its count
 pub record MeasuresCode (c : Checked JxlColorEncoding) (n r : ℕ) : Type 0 where
-  pub told : profileBy r ≡ answer (then c planOf) n
-  pub answer : r ≡ number (answer (then c planOf) n)
+  pub told : (k : ℕ) → profileBy r (countAfter (codeAnswer c n) k) ≡ codeAnswer c n
+  pub answer : r ≡ number (codeAnswer c n)
+
+-- both with the count in a lent number, which was k at entry and is m at exit
+pub record WritesCounted (c : Checked JxlColorEncoding) (before after : List ℕ) (k m r : ℕ) : Type 0 where
+  pub writes : WritesCode c before after r
+  pub rounded : m ≡ countAfter (codeAnswer c (length before)) k
+
+pub record MeasuresCounted (c : Checked JxlColorEncoding) (n k m r : ℕ) : Type 0 where
+  pub measures : MeasuresCode c n r
+  pub rounded : m ≡ countAfter (codeAnswer c n) k
 
 -- ---- a job: how many entries it has
 

@@ -7,6 +7,7 @@ use description_parser::Parsed;
 use job::JobAnswer;
 use job_output::JobProfile;
 use writer::Profile;
+ghost use mathlib.Core.Path.{_≡_};
 ghost use lib.ListN.{length};
 ghost use Rattle.color_encoding.specs.Codes.{whitePointFrom, primariesFrom, transferFunctionFrom, intentFrom};
 ghost use Rattle.color_encoding.specs.Codes.{knownEncoding, grayFrom, rgbFrom, xybFrom};
@@ -19,7 +20,8 @@ ghost use Rattle.reader_spec.specs.Read as Read;
 ghost use Rattle.reader_spec.specs.Finder as Finder;
 ghost use Rattle.reading.specs.Reading.{reading};
 ghost use Rattle.app2.specs.App2.{writtenSegments, joinedFile};
-ghost use Rattle.host.specs.Host.{WritesCode, MeasuresCode, CountsEntries, profileNumber, ReadsPlan, StoresEncoding, FindsElement, GivesNumber};
+ghost use Rattle.writer.specs.Writer.{number, countAfter};
+ghost use Rattle.host.specs.Host.{WritesCode, MeasuresCode, WritesCounted, MeasuresCounted, CountsEntries, profileNumber, ReadsPlan, StoresEncoding, FindsElement, GivesNumber};
 
 // ---- the profile of an encoding
 
@@ -28,7 +30,10 @@ fn write(code: EncodingCode, out: &mut [u8]) -> u32
 {
     match code {
         EncodingCode::Known(encoding) => match writer::maybe_create_profile(encoding, out) {
-            Profile::Written(n) => n,
+            Profile::Written {
+                length: n,
+                rounded: _,
+            } => n,
             Profile::Refused(number) => number,
         },
         EncodingCode::Unknown => color_encoding::UNKNOWN,
@@ -108,7 +113,10 @@ fn length(code: EncodingCode, capacity: usize) -> u32
         return color_encoding::UNKNOWN;
     };
     match writer::profile_length(encoding, capacity) {
-        Profile::Written(n) => n,
+        Profile::Written {
+            length: n,
+            rounded: _,
+        } => n,
         Profile::Refused(number) => number,
     }
 }
@@ -175,6 +183,185 @@ pub extern "C" fn merqyduk_length_xyb(intent: u32, capacity: usize) -> u32
     ensures { λ r. ⌜ MeasuresCode (xybFrom (intentFrom intent)) capacity r ⌝ }
 {
     length(encoding_codes::xyb_from_number(intent), capacity)
+}
+
+// ---- both with how many fixed numbers were rounded: in a lent number, which a refusal leaves as it was
+
+fn answered(profile: Profile, rounded: &mut u32) -> u32
+    ensures { λ r. ⌜ (r ≡ number profile) × (now (rounded .exit) ≡ countAfter profile (now (rounded .entry))) ⌝ }
+{
+    match profile {
+        Profile::Written {
+            length: n,
+            rounded: count,
+        } => {
+            *rounded = count;
+            n
+        }
+        Profile::Refused(k) => k,
+    }
+}
+
+fn write_counted(code: EncodingCode, out: &mut [u8], rounded: &mut u32) -> u32
+    ensures { λ r. ⌜ WritesCounted (knownEncoding code) (now (out .entry)) (now (out .exit)) (now (rounded .entry)) (now (rounded .exit)) r ⌝ }
+{
+    match code {
+        EncodingCode::Known(encoding) => {
+            answered(writer::maybe_create_profile(encoding, out), rounded)
+        }
+        EncodingCode::Unknown => color_encoding::UNKNOWN,
+    }
+}
+
+fn length_counted(code: EncodingCode, capacity: usize, rounded: &mut u32) -> u32
+    ensures { λ r. ⌜ MeasuresCounted (knownEncoding code) capacity (now (rounded .entry)) (now (rounded .exit)) r ⌝ }
+{
+    match code {
+        EncodingCode::Known(encoding) => {
+            answered(writer::profile_length(encoding, capacity), rounded)
+        }
+        EncodingCode::Unknown => color_encoding::UNKNOWN,
+    }
+}
+
+#[no_mangle]
+pub extern "C" fn merqyduk_write_gray_counted(
+    white: u32,
+    wx: f32,
+    wy: f32,
+    curve: u32,
+    gamma: f32,
+    intent: u32,
+    out: &mut [u8],
+    rounded: &mut u32,
+) -> u32
+    ensures { λ r. ⌜ WritesCounted (grayFrom (whitePointFrom white wx wy) (transferFunctionFrom curve gamma) (intentFrom intent)) (now (out .entry)) (now (out .exit)) (now (rounded .entry)) (now (rounded .exit)) r ⌝ }
+{
+    write_counted(
+        encoding_codes::gray_from_numbers(white, wx, wy, curve, gamma, intent),
+        out,
+        rounded,
+    )
+}
+
+#[no_mangle]
+pub extern "C" fn merqyduk_write_rgb_counted(
+    white: u32,
+    wx: f32,
+    wy: f32,
+    primaries: u32,
+    rx: f32,
+    ry: f32,
+    gx: f32,
+    gy: f32,
+    bx: f32,
+    by: f32,
+    curve: u32,
+    gamma: f32,
+    intent: u32,
+    out: &mut [u8],
+    rounded: &mut u32,
+) -> u32
+    ensures { λ r. ⌜ WritesCounted (rgbFrom (whitePointFrom white wx wy) (primariesFrom primaries rx ry gx gy bx by) (transferFunctionFrom curve gamma) (intentFrom intent)) (now (out .entry)) (now (out .exit)) (now (rounded .entry)) (now (rounded .exit)) r ⌝ }
+{
+    write_counted(
+        encoding_codes::rgb_from_numbers(
+            white,
+            wx,
+            wy,
+            primaries,
+            rx,
+            ry,
+            gx,
+            gy,
+            bx,
+            by,
+            curve,
+            gamma,
+            intent,
+        ),
+        out,
+        rounded,
+    )
+}
+
+#[no_mangle]
+pub extern "C" fn merqyduk_write_xyb_counted(intent: u32, out: &mut [u8], rounded: &mut u32) -> u32
+    ensures { λ r. ⌜ WritesCounted (xybFrom (intentFrom intent)) (now (out .entry)) (now (out .exit)) (now (rounded .entry)) (now (rounded .exit)) r ⌝ }
+{
+    write_counted(encoding_codes::xyb_from_number(intent), out, rounded)
+}
+
+#[no_mangle]
+pub extern "C" fn merqyduk_length_gray_counted(
+    white: u32,
+    wx: f32,
+    wy: f32,
+    curve: u32,
+    gamma: f32,
+    intent: u32,
+    capacity: usize,
+    rounded: &mut u32,
+) -> u32
+    ensures { λ r. ⌜ MeasuresCounted (grayFrom (whitePointFrom white wx wy) (transferFunctionFrom curve gamma) (intentFrom intent)) capacity (now (rounded .entry)) (now (rounded .exit)) r ⌝ }
+{
+    length_counted(
+        encoding_codes::gray_from_numbers(white, wx, wy, curve, gamma, intent),
+        capacity,
+        rounded,
+    )
+}
+
+#[no_mangle]
+pub extern "C" fn merqyduk_length_rgb_counted(
+    white: u32,
+    wx: f32,
+    wy: f32,
+    primaries: u32,
+    rx: f32,
+    ry: f32,
+    gx: f32,
+    gy: f32,
+    bx: f32,
+    by: f32,
+    curve: u32,
+    gamma: f32,
+    intent: u32,
+    capacity: usize,
+    rounded: &mut u32,
+) -> u32
+    ensures { λ r. ⌜ MeasuresCounted (rgbFrom (whitePointFrom white wx wy) (primariesFrom primaries rx ry gx gy bx by) (transferFunctionFrom curve gamma) (intentFrom intent)) capacity (now (rounded .entry)) (now (rounded .exit)) r ⌝ }
+{
+    length_counted(
+        encoding_codes::rgb_from_numbers(
+            white,
+            wx,
+            wy,
+            primaries,
+            rx,
+            ry,
+            gx,
+            gy,
+            bx,
+            by,
+            curve,
+            gamma,
+            intent,
+        ),
+        capacity,
+        rounded,
+    )
+}
+
+#[no_mangle]
+pub extern "C" fn merqyduk_length_xyb_counted(
+    intent: u32,
+    capacity: usize,
+    rounded: &mut u32,
+) -> u32
+    ensures { λ r. ⌜ MeasuresCounted (xybFrom (intentFrom intent)) capacity (now (rounded .entry)) (now (rounded .exit)) r ⌝ }
+{
+    length_counted(encoding_codes::xyb_from_number(intent), capacity, rounded)
 }
 
 // ---- the encoding that a typed text describes

@@ -9,6 +9,7 @@ use Rattle.buffer.specs.Buffer.{put}
 use Rattle.buffer.specs.Checked.{Checked, is, refused}
 use Rattle.profile.specs.TagTypes.{join}
 use Rattle.encoding_plan.specs.PlanOf.{planOf}
+use Rattle.encoding_plan.specs.FixedFloats.{countedPlan}
 use Rattle.writer.specs.Writer.{answer, output, tooShort}
 use Rattle.writer.specs.declared.Profile.{Profile}
 use Rattle.writer.specs.declared.Profile.the-variants as P
@@ -49,12 +50,12 @@ pub record Lends (bytes before after : List ℕ) (r : Output) : Type 0 where
 -- ---- the profile of one entry
 
 abbrev pub fromWriter : Profile → JobProfile
-fromWriter (P.Written n) = J.Written n
+fromWriter (P.Written n k) = J.Written n
 fromWriter (P.Refused k) = J.Refused k
 
 -- as the writer answers to an output of n bytes
 abbrev pub profileAnswer : EntryAnswer → ℕ → JobProfile
-profileAnswer (E.Is e) n = fromWriter (answer (planOf (e .encoding)) n)
+profileAnswer (E.Is e) n = fromWriter (answer (countedPlan (e .encoding)) n)
 profileAnswer E.Absent n = J.Absent
 profileAnswer (E.Refused k) n = J.Refused k
 

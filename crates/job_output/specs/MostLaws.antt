@@ -7,12 +7,14 @@ use lib.ListN.{length, length-append}
 use Rattle.buffer.specs.All.{All, none, more}
 use Rattle.buffer.specs.Checked.{Checked, is, refused}
 use Rattle.color_encoding.specs.declared.JxlColorEncoding.{JxlColorEncoding}
+use Rattle.numbers.specs.Rounded.{counted}
 use Rattle.digits.specs.DigitsLaws.{length-digits}
 use Rattle.text.specs.Held.{HeldEncoding}
 use Rattle.profile.specs.TagTypes.{join}
 use Rattle.profile.specs.Plan.{Plan}
 use Rattle.profile.specs.Layout.{layout}
 use Rattle.encoding_plan.specs.PlanOf.{planOf}
+use Rattle.encoding_plan.specs.FixedFloats.{fixedFloats, countedPlan}
 use Rattle.writer_laws.specs.WrittenLength.{written-length}
 use Rattle.writer_laws.specs.RefusalNumbers.{refusal-number}
 use Rattle.job.specs.Bounds.{EntryBounds}
@@ -21,10 +23,10 @@ use Rattle.entry_output.specs.EntryOutput.{enough, lengthOrRefusal, entryLine, 
 use Rattle.entry_output.specs.EntryOutputLaws.{length-place, entryLine-is}
 use Rattle.entry_output.specs.declared.Stream.{Stream}
 
-answer-most : (e : JxlColorEncoding) → HeldEncoding e → length (lengthOrRefusal (enough (planOf e))) ≤ 9
+answer-most : (e : JxlColorEncoding) → HeldEncoding e → length (lengthOrRefusal (enough (countedPlan e))) ≤ 9
 answer-most e h = go (planOf e) refl
   where
-    go : (c : Checked Plan) → planOf e ≡ c → length (lengthOrRefusal (enough c)) ≤ 9
+    go : (c : Checked Plan) → planOf e ≡ c → length (lengthOrRefusal (enough (counted (fixedFloats e) c))) ≤ 9
     go (is p) q = omega (arith, length-digits 3 (length (layout p)) (omega (arith, written-length e h q .1)))
     go (refused k) q = simp length-append (omega (arith, length-digits 0 k (omega (arith, refusal-number e q .1))))
 

@@ -139,7 +139,10 @@ fn from_writer(answer: Profile) -> JobProfile
     ensures { λ r. ⌜ r ≡ fromWriter answer ⌝ }
 {
     match answer {
-        Profile::Written(n) => JobProfile::Written(n),
+        Profile::Written {
+            length: n,
+            rounded: _,
+        } => JobProfile::Written(n),
         Profile::Refused(k) => JobProfile::Refused(k),
     }
 }

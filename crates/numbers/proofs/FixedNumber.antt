@@ -4,9 +4,9 @@ use Prim.Native.Nat.{ℕ, zero, suc, _+_, _-_, _*_, _/_, _%_, _^_, _≤_, _<_}
 use mathlib.Core.Path.{_≡_, refl, sym, ap, _∙_, subst}
 use mathlib.Core.Logic.{_⊎_, inl, inr, ⊎-elim}
 use mathlib.Core.Bool.{Bool, true, false, not, cond}
-use native.Mathlib.Nat.{le-trans, le-of-eq, lt-of-lt-of-le, mul-assoc, mul-right-comm, mul-one, mul-le-mul-right, mul-le-mul-left, le-of-mul-le-mul-right}
+use native.Mathlib.Nat.{le-trans, le-of-eq, lt-of-lt-of-le, mul-assoc, mul-right-comm, mul-one, mul-le-mul-right, mul-le-mul-left, le-of-mul-le-mul-right, eq-of-mul-eq-mul-right, mod-one, mod-eq-of-lt, mul-mod-left, div-add-mod'}
 use native.Mathlib.Omega.{arith}
-use lib.Dec.{T, leb, ltb, eqb, leb→le, le→leb, lit<, ltb→lt, nltb→le}
+use lib.Dec.{T, leb, ltb, eqb, leb→le, le→leb, lit<, ltb→lt, nltb→le, eqb→eq, eqb-refl}
 use lib.Pow.{pow-add, pow-pos, pow-mono, shl-lt, shl-exact}
 use lib.IntN.{ℤ, pos, negℤ, _-ℤ_, +ℤ-idl}
 use lib.Ieee.{Float, nan, inf, fin, binary32, up, down, fits, ofFields, toBits, ne}
@@ -22,7 +22,7 @@ use Rattle.floats.specs.Fields.{significand}
 use Rattle.floats.specs.FieldsLaws.{fields-of, at-top, field-value}
 use Rattle.floats.specs.Rounding.{halvesUp}
 use Rattle.floats.specs.RoundingLaws.{halvesUp-le, halvesUp-same, halvesUp-whole}
-use Rattle.numbers.specs.Fixed.{signed, largest, ofFraction, s15Fixed16}
+use Rattle.numbers.specs.Fixed.{signed, largest, wholeFraction, ofFraction, s15Fixed16}
 use Rattle.numbers.specs.declared.fixed.S15Fixed16.the-variants.{Number, OutOfRange}
 
 lt-or-ge : (a b : ℕ) → (a < b) ⊎ (b ≤ a)
@@ -49,6 +49,25 @@ module _ (n d a c : ℕ) (D : 0 < d) (C : 0 < c) (e : n * c ≡ a * d) where
       (λ t. le→leb n (largest * d)
       (le-of-mul-le-mul-right (le-trans (le-of-eq e) (le-trans (mul-le-mul-right d (leb→le a (largest * c) t)) (le-of-eq (mul-right-comm largest c d)))) C))
 
+-- ---- and so does whether it is whole
+
+module _ (n d a c : ℕ) (D : 0 < d) (e : n * c ≡ a * d) where
+  divided : n % d ≡ 0 → a % c ≡ 0
+  divided z =
+      let n-is : n / d * d ≡ n = omega (arith, div-add-mod' n d, z) in
+      let a-is : n / d * c ≡ a = eq-of-mul-eq-mul-right d D (n / d * c) a (mul-right-comm (n / d) c d ∙ ap (λ (x : ℕ). x * c) n-is ∙ e) in
+      ap (λ (x : ℕ). x % c) (sym a-is) ∙ mul-mod-left (n / d) c
+
+module _ (n d a c : ℕ) (D : 0 < d) (C : 0 < c) (e : n * c ≡ a * d) where
+  whole-same : eqb (n % d) 0 ≡ eqb (a % c) 0
+  whole-same =
+      same-test (eqb (n % d) 0) (eqb (a % c) 0)
+      (λ t. is-zero (divided n d a c D e (eqb→eq (n % d) 0 t)))
+      (λ t. is-zero (divided a c n d C (sym e) (eqb→eq (a % c) 0 t)))
+    where
+      is-zero : {x : ℕ} → x ≡ 0 → T (eqb x 0)
+      is-zero z = subst (λ (y : ℕ). T (eqb y 0)) (sym z) tt
+
 of-value : (v : Float) (s : Bool) (a c : ℕ) → 0 < c → HasValue v s a c → s15Fixed16 v ≡ ofFraction s a c
 unfolding s15Fixed16
 of-value nan s a c C h = absurd h
@@ -57,7 +76,7 @@ of-value (fin t m e) s a c C h =
     let n = m * up e in
     let cross : n * 65536 * c ≡ a * 65536 * down e =
     mul-right-comm n 65536 c ∙ ap (λ (x : ℕ). x * 65536) (h .1) ∙ mul-right-comm a (down e) 65536 in
-    rw (h .0, range-same (n * 65536) (down e) (a * 65536) c (down-pos e) C cross, halvesUp-same (n * 65536) (down e) (a * 65536) c (down-pos e) C cross)
+    rw (h .0, range-same (n * 65536) (down e) (a * 65536) c (down-pos e) C cross, halvesUp-same (n * 65536) (down e) (a * 65536) c (down-pos e) C cross, whole-same (n * 65536) (down e) (a * 65536) c (down-pos e) C cross)
 
 -- ---- a significand of 24 digits is in range, whatever it is divided by
 
@@ -83,6 +102,10 @@ module _ (q k : ℕ) (lo : 133 ≤ k) where
       sum : (k : ℕ) → 133 ≤ k → k ≡ k - 133 + 133
       sum k h = omega arith
 
+  pub above-whole : true ≡ wholeFraction (q * 2 ^ k) (2 ^ 149)
+  above-whole =
+      sym (whole-same (q * 2 ^ k * 65536) (2 ^ 149) (q * 2 ^ (k - 133)) 1 (pow-pos 149) (lit< tt) whole-is ∙ ap (λ (r : ℕ). eqb r 0) (mod-one (q * 2 ^ (k - 133))))
+
   whole : scaledOf q k ≡ q * 2 ^ (k - 133)
   whole = halvesUp-same (q * 2 ^ k * 65536) (2 ^ 149) (q * 2 ^ (k - 133)) 1 (pow-pos 149) (lit< tt) whole-is ∙ halvesUp-whole (q * 2 ^ (k - 133))
 
@@ -106,6 +129,36 @@ module _ (q k : ℕ) (h : k < 133) where
 
   pub part : halvesUp q (2 ^ (133 - k)) ≡ scaledOf q k
   part = sym (halvesUp-same (q * 2 ^ k * 65536) (2 ^ 149) q (2 ^ (133 - k)) (pow-pos 149) (pow-pos (133 - k)) part-is)
+
+  part-whole : eqb (q % 2 ^ (133 - k)) 0 ≡ wholeFraction (q * 2 ^ k) (2 ^ 149)
+  part-whole = sym (whole-same (q * 2 ^ k * 65536) (2 ^ 149) q (2 ^ (133 - k)) (pow-pos 149) (pow-pos (133 - k)) part-is)
+
+  -- all digits of q lie below the last place
+  pub below-whole : q < 2 ^ 24 → 63 < 133 - k → eqb q 0 ≡ wholeFraction (q * 2 ^ k) (2 ^ 149)
+  below-whole l far =
+      ap (λ (r : ℕ). eqb r 0) (sym (mod-eq-of-lt (lt-of-lt-of-le l (pow-mono {i = 24} {j = 133 - k} (omega arith))))) ∙ part-whole
+
+  -- q is what is left of it where the digits below are cleared
+  pub cleared-whole : q < 2 ^ 24 → eqb (q / 2 ^ (133 - k) * 2 ^ (133 - k) % 2 ^ 64) q ≡ wholeFraction (q * 2 ^ k) (2 ^ 149)
+  cleared-whole l = ap (λ (r : ℕ). eqb r q) kept-digits ∙ same-test (eqb (q / d * d) q) (eqb (q % d) 0) none some ∙ part-whole
+    where
+      d : ℕ
+      d = 2 ^ (133 - k)
+
+      kept-digits : q / d * d % 2 ^ 64 ≡ q / d * d
+      kept-digits = mod-eq-of-lt (omega (arith, div-add-mod' q d))
+
+      none : T (eqb (q / d * d) q) → T (eqb (q % d) 0)
+      none t = subst (λ (y : ℕ). T (eqb y 0)) (sym (zero-rest (eqb→eq (q / d * d) q t))) tt
+        where
+          zero-rest : q / d * d ≡ q → q % d ≡ 0
+          zero-rest e = omega (arith, div-add-mod' q d, e)
+
+      some : T (eqb (q % d) 0) → T (eqb (q / d * d) q)
+      some t = subst (λ (y : ℕ). T (eqb y q)) (sym (no-rest (eqb→eq (q % d) 0 t))) (eqb-refl q)
+        where
+          no-rest : q % d ≡ 0 → q / d * d ≡ q
+          no-rest e = omega (arith, div-add-mod' q d, e)
 
   part-range : leb (q * 2 ^ k * 65536) (largest * 2 ^ 149) ≡ leb q (largest * 2 ^ (133 - k))
   part-range = range-same (q * 2 ^ k * 65536) (2 ^ 149) q (2 ^ (133 - k)) (pow-pos 149) (pow-pos (133 - k)) part-is
@@ -204,7 +257,7 @@ module _ (x : Float) (F : T (fits binary32 x)) where
       finite l =
           sym (at-field l
           ∙ ap (λ (q : ℕ). ofFraction s (q * 2 ^ (f - 1)) (2 ^ 149)) lead
-          ∙ ap (λ (z : Bool). cond z (Number (signed s (scaledOf (2 ^ 23 + t) (f - 1)))) OutOfRange)
+          ∙ ap (λ (z : Bool). cond z (Number (signed s (scaledOf (2 ^ 23 + t) (f - 1))) (wholeFraction ((2 ^ 23 + t) * 2 ^ (f - 1)) (2 ^ 149))) OutOfRange)
           (lt-leb ((2 ^ 23 + t) * 2 ^ (f - 1) * 65536) (largest * 2 ^ 149) (far (2 ^ 23 + t) (f - 1) (omega arith) (before f h))))
         where
           before : (f : ℕ) → 141 < f → 141 ≤ f - 1
@@ -216,18 +269,24 @@ module _ (x : Float) (F : T (fits binary32 x)) where
           is : (b f : ℕ) → f ≡ b % 2 ^ 31 / 2 ^ 23 → 255 ≤ f → 255 ≡ f
           is b f e h = omega arith
 
-  module _ (near : f ≤ 141) (n : ℕ) (e : n ≡ scaledOf (significand binary32 f t) (f - 1)) where
-    known : s15Fixed16 x ≡ cond (leb n largest) (Number (signed s n)) OutOfRange
+  abbrev q : ℕ
+  q = significand binary32 f t
+
+  module _ (near : f ≤ 141) (n : ℕ) (e : n ≡ scaledOf q (f - 1)) where
+    known : s15Fixed16 x ≡ cond (leb n largest) (Number (signed s n) (wholeFraction (q * 2 ^ (f - 1)) (2 ^ 149))) OutOfRange
     known =
         at-field (under f near)
-        ∙ ap (λ (z : Bool). cond z (Number (signed s (scaledOf (significand binary32 f t) (f - 1)))) OutOfRange) (range-is (significand binary32 f t) (f - 1) digits-lt)
-        ∙ ap (λ (y : ℕ). cond (leb y largest) (Number (signed s y)) OutOfRange) (sym e)
+        ∙ ap (λ (z : Bool). cond z (Number (signed s (scaledOf q (f - 1))) (wholeFraction (q * 2 ^ (f - 1)) (2 ^ 149))) OutOfRange) (range-is q (f - 1) digits-lt)
+        ∙ ap (λ (y : ℕ). cond (leb y largest) (Number (signed s y) (wholeFraction (q * 2 ^ (f - 1)) (2 ^ 149))) OutOfRange) (sym e)
       where
         under : (f : ℕ) → f ≤ 141 → f < 255
         under f h = omega arith
 
-    pub refused-near : largest < n → OutOfRange ≡ s15Fixed16 x
-    refused-near h = sym (known ∙ ap (λ (z : Bool). cond z (Number (signed s n)) OutOfRange) (lt-leb n largest h))
+    by-range : {b : Bool} → leb n largest ≡ b → s15Fixed16 x ≡ cond b (Number (signed s n) (wholeFraction (q * 2 ^ (f - 1)) (2 ^ 149))) OutOfRange
+    by-range h = known ∙ ap (λ (z : Bool). cond z (Number (signed s n) (wholeFraction (q * 2 ^ (f - 1)) (2 ^ 149))) OutOfRange) h
 
-    pub kept : n ≤ largest → Number (signed s n) ≡ s15Fixed16 x
-    kept h = sym (known ∙ ap (λ (z : Bool). cond z (Number (signed s n)) OutOfRange) (le-leb n largest h))
+    pub refused-near : largest < n → OutOfRange ≡ s15Fixed16 x
+    refused-near h = sym (by-range (lt-leb n largest h))
+
+    pub kept : n ≤ largest → {w : Bool} → w ≡ wholeFraction (q * 2 ^ (f - 1)) (2 ^ 149) → Number (signed s n) w ≡ s15Fixed16 x
+    kept h same = ap (Number (signed s n)) same ∙ sym (by-range (le-leb n largest h))

@@ -1,2 +1,4 @@
 pub mod Fixed
 pub mod FixedLaws
+pub mod Rounded
+pub mod RoundedLaws

@@ -6,13 +6,15 @@ ghost use Prim.Native.Nat.{_*_, _-_, _^_, _<_, _≤_};
 ghost use lib.Ieee.{binary32};
 ghost use Rattle.floats.specs.Fields.{significand};
 ghost use Rattle.floats.specs.Rounding.{halvesUp};
-ghost use Rattle.numbers.specs.Fixed.{signed, s15Fixed16};
+ghost use Rattle.numbers.specs.Fixed.{signed, wholeFraction, s15Fixed16};
+ghost use Rattle.numbers.specs.Rounded.{oneIfRounded};
 
 // The largest magnitude of a fixed number, 32767.994140625 in 65536ths.
 pub const LARGEST: i32 = 2147483264;
 
+// A fixed number, and whether it is exact: value * 65536 is whole.
 pub enum S15Fixed16 {
-    Number(i32),
+    Number { number: i32, whole: bool },
     OutOfRange,
 }
 
@@ -42,6 +44,22 @@ fn scaled(q: u64, k: u64) -> u64
     halves_up_shifted(q, 133 - k)
 }
 
+// Whether they are a whole number of 65536ths: the digits below a 65536th are zeros.
+fn is_whole(q: u64, k: u64) -> bool
+    requires { ⌜ (q < 2 ^ 24) × (k ≤ 140) ⌝ }
+    ensures { λ r. ⌜ r ≡ wholeFraction (q * 2 ^ k) (2 ^ 149) ⌝ }
+{
+    if 133 <= k {
+        return true;
+    }
+    let d = 133 - k;
+    // All digits lie below.
+    if 63 < d {
+        return q == 0;
+    }
+    (q >> d) << d == q
+}
+
 fn with_sign(negative: bool, n: u64) -> i32
     requires { ⌜ n < 2 ^ 31 ⌝ }
     ensures { λ r. ⌜ r ≡ signed negative n ⌝ }
@@ -63,9 +81,21 @@ pub fn to_s15_fixed_16(value: f32) -> S15Fixed16
     if 141 < field {
         return S15Fixed16::OutOfRange;
     }
-    let n = scaled(significand(field, digits), exponent(field));
+    let q = significand(field, digits);
+    let k = exponent(field);
+    let n = scaled(q, k);
     if (LARGEST as u64) < n {
         return S15Fixed16::OutOfRange;
     }
-    S15Fixed16::Number(with_sign(2147483648 <= b, n))
+    S15Fixed16::Number {
+        number: with_sign(2147483648 <= b, n),
+        whole: is_whole(q, k),
+    }
+}
+
+// What a number adds to a count of those that were rounded.
+pub fn one_if_rounded(whole: bool) -> u8
+    ensures { λ r. ⌜ r ≡ oneIfRounded whole ⌝ }
+{
+    if whole { 0 } else { 1 }
 }

@@ -10,4 +10,5 @@ pub use bits::i32_from_bits;
 pub use bits::i32_to_bits;
 pub use fixed::LARGEST;
 pub use fixed::S15Fixed16;
+pub use fixed::one_if_rounded;
 pub use fixed::to_s15_fixed_16;

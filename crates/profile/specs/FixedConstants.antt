@@ -1,10 +1,12 @@
--- The white of the PCS and the numbers of the named curves are the fixed numbers of the Rust's f32 constants. Assumes nothing.
+-- The white of the PCS and the numbers of the named curves are the fixed numbers of the Rust's f32 constants; how many of them are rounded.
+-- Assumes nothing.
 use Prim.Native.Nat.{ℕ}
 use mathlib.Core.Path.{_≡_, refl}
 use mathlib.Core.List.{List, [], _∷_, map}
 use lib.Ieee.{Float, binary32, ofBits}
 use Rattle.floats.specs.Binary32.{zero, one}
-use Rattle.numbers.specs.Fixed.{s15Fixed16, fixedNumber}
+use Rattle.numbers.specs.Fixed.{s15Fixed16, whole, fixedNumber}
+use Rattle.numbers.specs.Rounded.{roundedIn}
 use Rattle.profile.specs.TagTypes.{parameters}
 use Rattle.profile.specs.Layout.{D50}
 use Rattle.profile.specs.declared.CurveName.{CurveName}
@@ -20,6 +22,10 @@ d50Floats = b32 0x3f76_d602 ∷ one ∷ b32 0x3f53_2cf9 ∷ []
 pub d50-rounded : map fixedNumber d50Floats ≡ D50
 unfolding s15Fixed16 ofBits
 d50-rounded = refl
+
+pub d50-count : roundedIn d50Floats ≡ 2
+unfolding roundedIn whole ofBits
+d50-count = refl
 
 -- the `PARAMS` of each named curve, each quotient rounded to f32
 abbrev pub parameterFloats : CurveName → List Float
@@ -38,3 +44,16 @@ parameters-rounded Name.BT709 = refl
 parameters-rounded Name.Linear = refl
 parameters-rounded Name.SRGB = refl
 parameters-rounded Name.DCI = refl
+
+abbrev pub parametersRounded : CurveName → ℕ
+parametersRounded Name.BT709 = 5
+parametersRounded Name.Linear = 0
+parametersRounded Name.SRGB = 5
+parametersRounded Name.DCI = 1
+
+pub parameters-count : (n : CurveName) → parametersRounded n ≡ roundedIn (parameterFloats n)
+unfolding roundedIn whole ofBits
+parameters-count Name.BT709 = refl
+parameters-count Name.Linear = refl
+parameters-count Name.SRGB = refl
+parameters-count Name.DCI = refl

@@ -101,7 +101,10 @@ fn float(input: &[u8], at: usize) -> f32 {
 // f: a float; 0 and its fixed number, or 1 where it is out of range.
 fn fixed(input: &[u8], out: &mut [u8]) -> usize {
     match numbers::to_s15_fixed_16(float(input, 0)) {
-        S15Fixed16::Number(value) => put_two(out, 0, 0, numbers::i32_to_bits(value)),
+        S15Fixed16::Number {
+            number: value,
+            whole: _,
+        } => put_two(out, 0, 0, numbers::i32_to_bits(value)),
         S15Fixed16::OutOfRange => put_two(out, 0, 1, 0),
     }
 }
@@ -262,7 +265,10 @@ fn put_text(out: &mut [u8], at: usize, e: JxlColorEncoding) -> usize {
 fn written(e: JxlColorEncoding, capacity: usize, out: &mut [u8]) -> usize {
     let mut space = [UNTOUCHED; 1300];
     let number = match writer::maybe_create_profile(e, lent(&mut space, capacity)) {
-        Profile::Written(n) => n as usize,
+        Profile::Written {
+            length: n,
+            rounded: _,
+        } => n as usize,
         Profile::Refused(k) => k as usize,
     };
     let text = put_number_and_digest(&mut *out, 0, number, part(&space, 0, capacity));

@@ -5,6 +5,7 @@ use mathlib.Core.Bool.{Bool, true, false, cond}
 use mathlib.Core.List.{List, _++_}
 use native.Mathlib.Omega.{arith}
 use lib.Dec.{T, leb, eqb, leb→le}
+use lib.Ieee.{Float}
 use lib.ListN.{length, take, replicate, length-append}
 use lib.Seq.{take-at}
 use mir.Syntax.{w32}
@@ -13,6 +14,8 @@ use borrow.Author.Tests.{le-leb, lt-leb}
 use Rattle.buffer.specs.Buffer.{put}
 use Rattle.buffer.specs.Checked.{Checked, is, refused}
 use Rattle.buffer.specs.CheckedLaws.{never}
+use Rattle.numbers.specs.Rounded.{roundedIn, Counted, counted}
+use Rattle.numbers.specs.RoundedLaws.{counted-value}
 use Rattle.color_encoding.specs.declared.JxlColorEncoding.{JxlColorEncoding}
 use Rattle.text.specs.Description.{description}
 use Rattle.profile.specs.Plan.{Plan, maxLetters}
@@ -39,16 +42,16 @@ short-layout p h s {r} e = record { fits = omega (arith, e, length-layout p h, a
 
 -- ---- the answer on an output of n bytes, where the layout has `size`
 
-pub too-short : (p : Plan) (n size : ℕ) → size ≡ length (layout p) → n < size → Refused tooShort ≡ answer (is p) n
-too-short p n size e h = let less : n < length (layout p) = rw e at h in simp (lt-leb _ _ less)
+pub too-short : (p : Counted Plan) (n size : ℕ) → size ≡ length (layout (p .value)) → n < size → Refused tooShort ≡ answer (is p) n
+too-short p n size e h = let less : n < length (layout (p .value)) = rw e at h in simp (lt-leb _ _ less)
 
-pub enough : (p : Plan) (n size : ℕ) → size ≡ length (layout p) → size ≤ n → Written size ≡ answer (is p) n
-enough p n size e h = let room : length (layout p) ≤ n = rw e at h in ap Written e ∙ simp (le-leb _ _ room)
+pub enough : (p : Counted Plan) (n size : ℕ) → size ≡ length (layout (p .value)) → size ≤ n → Written size (p .rounded) ≡ answer (is p) n
+enough p n size e h = let room : length (layout (p .value)) ≤ n = rw e at h in ap (λ (m : ℕ). Written m (p .rounded)) e ∙ simp (le-leb _ _ room)
 
 -- ---- what an answer tells
 
 -- a refusal is no length
-differ : {k n : ℕ} → Refused k ≡ Written n → ⊥
+differ : {k n m : ℕ} → Refused k ≡ Written n m → ⊥
 differ e = let zero-one : _≡_ {A = ℕ} 0 1 = cc in omega arith
 
 -- where it is a length, there is a plan, whose layout has it and fits
@@ -58,22 +61,25 @@ pub record Accepted (c : Checked Plan) (n size : ℕ) : Type 0 where
   pub size-is : size ≡ length (layout plan)
   pub room : size ≤ n
 
-pub accepted : (c : Checked Plan) (n size : ℕ) → answer c n ≡ Written size → Accepted c n size
-accepted (refused k) n size e = absurd (differ e)
-accepted (is p) n size e = go (leb (length (layout p)) n) refl e
+pub accepted : (xs : List Float) (c : Checked Plan) (n : ℕ) {size m : ℕ} → answer (counted xs c) n ≡ Written size m → Accepted c n size
+accepted xs (refused k) n e = absurd (differ e)
+accepted xs (is p) n {size} {m} e = go (leb (length (layout p)) n) refl e
   where
-    go : (b : Bool) → leb (length (layout p)) n ≡ b → cond b (Written (length (layout p))) (Refused tooShort) ≡ Written size → Accepted (is p) n size
+    go : (b : Bool) → leb (length (layout p)) n ≡ b → cond b (Written (length (layout p)) (roundedIn xs)) (Refused tooShort) ≡ Written size m → Accepted (is p) n size
     go true h e =
         let same : size ≡ length (layout p) = cc in
         record { plan = p; is-plan = refl; size-is = same; room = rw same (leb→le (length (layout p)) n (subst T (sym h) tt)) }
     go false h e = absurd (differ e)
 
 -- the numbers that were worked out are that plan's
-pub same-plan : (r : EncodingPlan) (e : JxlColorEncoding) {p : Plan} → checkedPlan r e ≡ is p → Plans.planOf (r .plan) (description e) ≡ p
-same-plan r e {p} h = go (eqb (r .refusal) 0) h
+pub same-plan : (r : EncodingPlan) (e : JxlColorEncoding) (xs : List Float) {p : Plan} → checkedPlan r e ≡ counted xs (is p) → Plans.planOf (r .plan) (description e) ≡ p
+same-plan r e xs {p} h = go (eqb (r .refusal) 0) h
   where
-    go : (b : Bool) → cond b (is (Plans.planOf (r .plan) (description e))) (refused (r .refusal)) ≡ is p → Plans.planOf (r .plan) (description e) ≡ p
-    go true h = cc
+    planned : Counted Plan
+    planned = record { value = Plans.planOf (r .plan) (description e); rounded = r .rounded }
+
+    go : (b : Bool) → cond b (is planned) (refused (r .refusal)) ≡ counted xs (is p) → Plans.planOf (r .plan) (description e) ≡ p
+    go true h = let same : is p ≡ is (Plans.planOf (r .plan) (description e)) = counted-value xs (is p) h in cc same
     go false h = absurd (never h)
 
 -- ---- what is left in the output
@@ -84,10 +90,10 @@ laid-out c out left {size} a h =
     rw (a .is-plan) (h ∙ simp (le-leb _ _ room))
 
 -- on a refusal nothing is
-pub untouched : (c : Checked Plan) (out : List ℕ) {k : ℕ} → answer c (length out) ≡ Refused k → out ≡ output c out
-untouched (refused j) out e = refl
-untouched (is p) out {k} e = go (leb (length (layout p)) (length out)) e
+pub untouched : (xs : List Float) (c : Checked Plan) (out : List ℕ) {k : ℕ} → answer (counted xs c) (length out) ≡ Refused k → out ≡ output c out
+untouched xs (refused j) out e = refl
+untouched xs (is p) out {k} e = go (leb (length (layout p)) (length out)) e
   where
-    go : (b : Bool) → cond b (Written (length (layout p))) (Refused tooShort) ≡ Refused k → out ≡ cond b (put out 0 (layout p)) out
+    go : (b : Bool) → cond b (Written (length (layout p)) (roundedIn xs)) (Refused tooShort) ≡ Refused k → out ≡ cond b (put out 0 (layout p)) out
     go true e = absurd (differ (sym e))
     go false e = refl

@@ -8,10 +8,12 @@ use lib.ListN.{length}
 use Rattle.buffer.specs.Buffer.{put}
 use Rattle.profile.specs.Plan.{Plan}
 use Rattle.profile.specs.Layout.{layout}
-use Rattle.buffer.specs.Checked.{Checked, is, refused}
+use Rattle.buffer.specs.Checked.{Checked, is, refused, then}
+use Rattle.numbers.specs.Rounded.{Counted}
 use Rattle.color_encoding.specs.declared.JxlColorEncoding.{JxlColorEncoding}
 use Rattle.text.specs.Held.{HeldEncoding}
 use Rattle.encoding_plan.specs.PlanOf.{planOf}
+use Rattle.encoding_plan.specs.FixedFloats.{countedPlan}
 use Rattle.writer.specs.declared.Profile.{Profile}
 use Rattle.writer.specs.declared.Profile.the-variants.{Written, Refused}
 
@@ -23,9 +25,9 @@ tooShort = 9
 abbrev pub maxWritten : ℕ
 maxWritten = 1200
 
--- the length of the profile, or the first refusal number; the output has n bytes
-abbrev pub answer : Checked Plan → ℕ → Profile
-answer (is p) n = cond (leb (length (layout p)) n) (Written (length (layout p))) (Refused tooShort)
+-- the length of the profile and how many of its fixed numbers were rounded, or the first refusal number; the output has n bytes
+abbrev pub answer : Checked (Counted Plan) → ℕ → Profile
+answer (is p) n = cond (leb (length (layout (p .value))) n) (Written (length (layout (p .value))) (p .rounded)) (Refused tooShort)
 answer (refused k) n = Refused k
 
 -- the output at exit: the profile in front and the rest as it was, or all as it was
@@ -35,25 +37,31 @@ output (refused k) out = out
 
 -- the length or the refusal number, as one number
 abbrev pub number : Profile → ℕ
-number (Written n) = n
+number (Written n k) = n
 number (Refused k) = k
 
--- the answer that such a number stands for: a refusal number is at most 99, a length at least 284 (writer_laws, RefusalNumbers)
-abbrev pub profileBy : ℕ → Profile
-profileBy n = cond (leb n 99) (Refused n) (Written n)
+-- a count that was k before: that of the answer; a refusal has none and leaves it
+abbrev pub countAfter : Profile → ℕ → ℕ
+countAfter (Written n m) k = m
+countAfter (Refused n) k = k
 
--- the promise of a call that writes a plan, or refuses: its answer r is the writer's, as `shown` shows it
-pub record Writes {A : Type 0} (shown : Profile → A) (plan : Checked Plan) (before after : List ℕ) (r : A) : Type 0 where
-  pub answer : r ≡ shown (answer plan (length before))
-  pub output : after ≡ output plan before
+-- the answer that such a number and a count k stand for: a refusal number is at most 99, a length at least 284 (writer_laws, RefusalNumbers)
+abbrev pub profileBy : ℕ → ℕ → Profile
+profileBy n k = cond (leb n 99) (Refused n) (Written n k)
+
+-- the promise of a call that writes the plan of an encoding, or refuses: its answer r is the writer's, as `shown` shows it. Where the encoding comes by
+-- codes they may have no meaning
+pub record Writes {A : Type 0} (shown : Profile → A) (c : Checked JxlColorEncoding) (before after : List ℕ) (r : A) : Type 0 where
+  pub answer : r ≡ shown (answer (then c countedPlan) (length before))
+  pub output : after ≡ output (then c planOf) before
 
 -- the promise of `maybe_create_profile` for the encoding e
 pub record Creates (e : JxlColorEncoding) (before after : List ℕ) (r : Profile) : Type 0 where
-  pub writes : Writes (λ p. p) (planOf e) before after r
+  pub writes : Writes (λ p. p) (is e) before after r
   -- an encoding in code holds binary32 values, as the theorems about its plan ask
   pub held : HeldEncoding e
 
 -- the promise of `profile_length` for the encoding e: what the writer answers on an output of n bytes
 pub record MeasuresProfile (e : JxlColorEncoding) (n : ℕ) (r : Profile) : Type 0 where
-  pub answer : r ≡ answer (planOf e) n
+  pub answer : r ≡ answer (countedPlan e) n
   pub held : HeldEncoding e

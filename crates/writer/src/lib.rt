@@ -11,7 +11,7 @@ ghost use Rattle.profile.specs.Numbers as Plans;
 ghost use Rattle.text.specs.Description.{description};
 ghost use Rattle.text.specs.Held.{WhiteInRange};
 ghost use Rattle.encoding_plan.specs.Answers.{checkedPlan};
-ghost use Rattle.encoding_plan.specs.PlanOf.{planOf};
+ghost use Rattle.encoding_plan.specs.FixedFloats.{countedPlan};
 ghost use Rattle.writer.specs.Writer.{answer, MeasuresProfile, Creates};
 
 // The refusal of an output that is shorter than what is to be written.
@@ -20,16 +20,17 @@ pub const TOO_SHORT: u32 = 9;
 // The most bytes that any profile has.
 pub const MAX_WRITTEN: usize = 1200;
 
-// What the writer answers: the length of the profile that it wrote, or the first number of the refusal list that applies.
+// What the writer answers: the length of the profile that it wrote and how many of its fixed numbers were rounded, or the first number of the
+// refusal list that applies.
 pub enum Profile {
-    Written(u32),
+    Written { length: u32, rounded: u32 },
     Refused(u32),
 }
 
 // What the writer answers where the output has `capacity` bytes. Here alone it is decided.
 fn answer(encoding: JxlColorEncoding, planned: EncodingPlan, capacity: usize) -> Profile
-    requires { ⌜ checkedPlan planned encoding ≡ planOf encoding ⌝ }
-    ensures { λ r. ⌜ r ≡ answer (planOf encoding) capacity ⌝ }
+    requires { ⌜ checkedPlan planned encoding ≡ countedPlan encoding ⌝ }
+    ensures { λ r. ⌜ r ≡ answer (countedPlan encoding) capacity ⌝ }
 {
     if planned.refusal != 0 {
         return Profile::Refused(planned.refusal);
@@ -40,7 +41,10 @@ fn answer(encoding: JxlColorEncoding, planned: EncodingPlan, capacity: usize) ->
     if capacity < size {
         return Profile::Refused(TOO_SHORT);
     }
-    Profile::Written(size as u32)
+    Profile::Written {
+        length: size as u32,
+        rounded: planned.rounded,
+    }
 }
 
 // Lays the plan of an encoding out, whose profile has `size` bytes.
@@ -66,7 +70,10 @@ pub fn maybe_create_profile(encoding: JxlColorEncoding, out: &mut [u8]) -> Profi
 {
     let planned = encoding_plan::plan_of(encoding);
     let answered = answer(encoding, planned, out.len());
-    if let Profile::Written(size) = answered {
+    if let Profile::Written {
+        length: size,
+        rounded: _,
+    } = answered {
         let plan = planned.plan;
         put_profile(encoding, plan, size as usize, out);
     }

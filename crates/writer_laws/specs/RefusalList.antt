@@ -12,7 +12,8 @@ use Rattle.buffer.specs.Checked.{is}
 use Rattle.buffer.specs.First.{First}
 use Rattle.floats.specs.Abs.{abs}
 use Rattle.floats.specs.Binary32.{_⊘_, _⊖_, _⊗_, one}
-use Rattle.numbers.specs.Fixed.{s15Fixed16}
+use Rattle.numbers.specs.Fixed.{s15Fixed16, whole}
+use Rattle.numbers.specs.Rounded.{roundedIn}
 use Rattle.numbers.specs.declared.fixed.S15Fixed16.the-variants.{Number}
 use Rattle.linalg.specs.Linalg.{product, rows, columns}
 use Rattle.matrix_inverse.specs.Inverse.{singular}
@@ -32,6 +33,7 @@ use Rattle.colorimetry.specs.Primaries.{primariesMatrix, scaledPrimaries}
 use Rattle.profile.specs.Plan.{Plan}
 use Rattle.profile.specs.Layout.{layout}
 use Rattle.encoding_plan.specs.PlanOf.{planOf}
+use Rattle.encoding_plan.specs.FixedFloats.{fixedFloats}
 use Rattle.writer.specs.Writer.{tooShort}
 use Rattle.writer.specs.declared.Profile.{Profile}
 use Rattle.writer.specs.declared.Profile.the-variants.{Written, Refused}
@@ -40,7 +42,7 @@ use Rattle.writer.specs.declared.Profile.the-variants.{Written, Refused}
 
 -- a float has a fixed number
 abbrev pub Fits : Float → Type 0
-Fits x = (z : ℤ) × (s15Fixed16 x ≡ Number z)
+Fits x = (z : ℤ) × (s15Fixed16 x ≡ Number z (whole x))
 
 -- 1: the curve is neither PQ nor HLG
 abbrev pub NeitherPqNorHlg : JxlTransferFunction → Type 0
@@ -148,7 +150,7 @@ checks = c1 ∷ c2 ∷ c3 ∷ c4 ∷ c5 ∷ c6 ∷ c7 ∷ c8 ∷ c9 ∷ []
 -- ---- the answer
 
 -- the writer's answer to the encoding e and an output of n bytes: the number of the first check that fails, or, where all pass, the length of the
--- profile
+-- profile and how many of its fixed numbers were rounded
 pub data Answers (e : JxlColorEncoding) (n : ℕ) : Profile → Type 0 where
   refuses : {c : Check} → First (Passed e n) checks c → Answers e n (Refused (number c))
-  writes : (p : Plan) → planOf e ≡ is p → All (Passed e n) checks → Answers e n (Written (length (layout p)))
+  writes : (p : Plan) → planOf e ≡ is p → All (Passed e n) checks → Answers e n (Written (length (layout p)) (roundedIn (fixedFloats e)))

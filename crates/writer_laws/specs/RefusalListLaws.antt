@@ -14,12 +14,15 @@ use Rattle.buffer.specs.BoolLaws as Bools
 use Rattle.buffer.specs.Checked.{Checked, is, refused, then, each}
 use Rattle.buffer.specs.CheckedLaws.{then-assoc}
 use Rattle.buffer.specs.First.{First, fails, later}
-use Rattle.numbers.specs.Fixed.{s15Fixed16, fixedOr}
+use Rattle.numbers.specs.Fixed.{s15Fixed16, whole, fixedOr}
+use Rattle.numbers.specs.FixedLaws.{number-if}
+use Rattle.numbers.specs.Rounded.{roundedIn, counted}
 use Rattle.numbers.specs.declared.fixed.S15Fixed16.{S15Fixed16}
 use Rattle.numbers.specs.declared.fixed.S15Fixed16.the-variants.{Number, OutOfRange}
 use Rattle.profile.specs.Plan.{Plan}
 use Rattle.profile.specs.Layout.{layout}
 use Rattle.encoding_plan.specs.PlanOf.{planOf}
+use Rattle.encoding_plan.specs.FixedFloats.{fixedFloats}
 use Rattle.color_encoding.specs.declared.JxlColorEncoding.{JxlColorEncoding}
 use Rattle.writer.specs.Writer.{answer, tooShort}
 use Rattle.writer.specs.declared.Profile.{Profile}
@@ -36,11 +39,11 @@ pub data Decides (P : Type 0) (k : ℕ) {A : Type 0} (c : Checked A) : Type 0 wh
 pub fixed-decides : (k : ℕ) (x : Float) → Decides (Fits x) k (fixedOr k x)
 fixed-decides k x = go (s15Fixed16 x) refl
   where
-    no-number : {z : ℤ} → OutOfRange ≡ Number z → ⊥
+    no-number : {z : ℤ} {w : Bool} → OutOfRange ≡ Number z w → ⊥
     no-number e = let z : _≡_ {A = ℕ} 0 1 = cc in absurd (omega arith)
 
     go : (s : S15Fixed16) → s15Fixed16 x ≡ s → Decides (Fits x) k (fixedOr k x)
-    go (Number z) h = passes (z, h) z (simp h)
+    go (Number z w) h = let fixed : fixedOr k x ≡ is z = simp h in passes (z, number-if k x fixed) z fixed
     go OutOfRange h = refuses (λ f. no-number (sym h ∙ f .1)) (simp h)
 
 pub both-decide : {P Q : Type 0} {k : ℕ} {A B : Type 0} {c : Checked A} {f : A → Checked B} → Decides P k c → ((a : A) → Decides Q k (f a)) → Decides (P × Q) k (then c f)
@@ -89,9 +92,13 @@ test-decides false false k c a pass fail = passes-as refl (pass refl)
 -- ---- the answer by the checks that are left
 
 module _ (e : JxlColorEncoding) (n : ℕ) where
+  -- the answer where the plan, or its refusal, is c
+  abbrev pub answerTo : Checked Plan → Profile
+  answerTo c = answer (counted (fixedFloats e) c) n
+
   pub data From (cs : List Check) : Profile → Type 0 where
     stops : {c : Check} → First (Passed e n) cs c → From cs (Refused (number c))
-    writes : (p : Plan) → planOf e ≡ is p → All (Passed e n) cs → From cs (Written (length (layout p)))
+    writes : (p : Plan) → planOf e ≡ is p → All (Passed e n) cs → From cs (Written (length (layout p)) (roundedIn (fixedFloats e)))
 
   pub onward : {c : Check} {cs : List Check} {a : Profile} → Passed e n c → From cs a → From (c ∷ cs) a
   onward p (stops f) = stops (later p f)
@@ -99,24 +106,24 @@ module _ (e : JxlColorEncoding) (n : ℕ) where
 
   -- a step that decides the next check, and what follows where it passes
   pub step : (c : Check) {cs : List Check} {A : Type 0} {x : Checked A} (f : A → Checked Plan) → Decides (Passed e n c) (number c) x
-      → ((a : A) → Passed e n c → x ≡ is a → From cs (answer (f a) n)) → From (c ∷ cs) (answer (then x f) n)
-  step c {cs} {x = x} f (passes p a g) r = subst (λ y. From (c ∷ cs) (answer (then y f) n)) (sym g) (onward p (r a p g))
-  step c {cs} {x = x} f (refuses bad g) r = subst (λ y. From (c ∷ cs) (answer (then y f) n)) (sym g) (stops (fails bad))
+      → ((a : A) → Passed e n c → x ≡ is a → From cs (answerTo (f a))) → From (c ∷ cs) (answerTo (then x f))
+  step c {cs} {x = x} f (passes p a g) r = subst (λ y. From (c ∷ cs) (answerTo (then y f))) (sym g) (onward p (r a p g))
+  step c {cs} {x = x} f (refuses bad g) r = subst (λ y. From (c ∷ cs) (answerTo (then y f))) (sym g) (stops (fails bad))
 
   pub step-as : (c : Check) {cs : List Check} {A : Type 0} {x : Checked A} (a : A) (f : A → Checked Plan) → DecidesAs (Passed e n c) (number c) x a
-      → (Passed e n c → x ≡ is a → From cs (answer (f a) n)) → From (c ∷ cs) (answer (then x f) n)
-  step-as c {cs} a f (passes-as p g) r = subst (λ y. From (c ∷ cs) (answer (then y f) n)) (sym g) (onward p (r p g))
-  step-as c {cs} a f (refuses-as bad g) r = subst (λ y. From (c ∷ cs) (answer (then y f) n)) (sym g) (stops (fails bad))
+      → (Passed e n c → x ≡ is a → From cs (answerTo (f a))) → From (c ∷ cs) (answerTo (then x f))
+  step-as c {cs} a f (passes-as p g) r = subst (λ y. From (c ∷ cs) (answerTo (then y f))) (sym g) (onward p (r p g))
+  step-as c {cs} a f (refuses-as bad g) r = subst (λ y. From (c ∷ cs) (answerTo (then y f))) (sym g) (stops (fails bad))
 
   -- a step of two: the check is decided by its first
-  pub apart : {cs : List Check} {A B : Type 0} (x : Checked A) (f : A → Checked B) (g : B → Checked Plan) → From cs (answer (then x (λ a. then (f a) g)) n)
-      → From cs (answer (then (then x f) g) n)
-  apart {cs} x f g r = subst (λ (c : Checked Plan). From cs (answer c n)) (sym (then-assoc x f g)) r
+  pub apart : {cs : List Check} {A B : Type 0} (x : Checked A) (f : A → Checked B) (g : B → Checked Plan) → From cs (answerTo (then x (λ a. then (f a) g)))
+      → From cs (answerTo (then (then x f) g))
+  apart {cs} x f g r = subst (λ (c : Checked Plan). From cs (answerTo c)) (sym (then-assoc x f g)) r
 
   -- the last check, of a plan that is laid out
-  pub last : (p : Plan) → planOf e ≡ is p → From (c9 ∷ []) (answer (is p) n)
+  pub last : (p : Plan) → planOf e ≡ is p → From (c9 ∷ []) (answerTo (is p))
   last p g = go (leb (length (layout p)) n) refl
     where
-      go : (b : Bool) → leb (length (layout p)) n ≡ b → From (c9 ∷ []) (cond b (Written (length (layout p))) (Refused tooShort))
+      go : (b : Bool) → leb (length (layout p)) n ≡ b → From (c9 ∷ []) (cond b (Written (length (layout p)) (roundedIn (fixedFloats e))) (Refused tooShort))
       go true h = writes p g (more {a = c9} (λ q k. let same : p ≡ q = cc (sym g ∙ k) in rw (← same) (leb→le (length (layout p)) n (Bools.holds h))) none)
       go false h = stops (fails {c = c9} (λ ok. Bools.true≢false (sym (le-leb (length (layout p)) n (ok p g)) ∙ h)))

@@ -5,18 +5,22 @@ use mathlib.Core.Bool.{Bool, true, false, cond}
 use native.Mathlib.Nat.{le-trans}
 use native.Mathlib.Omega.{arith}
 use lib.Dec.{leb, lit≤}
+use mathlib.Core.List.{List}
+use lib.Ieee.{Float}
 use lib.ListN.{length}
 use borrow.Author.Tests.{le-leb, lt-leb}
 use Rattle.buffer.specs.Checked.{Checked, is, refused}
 use Rattle.buffer.specs.CheckedLaws.{never}
 use Rattle.buffer.specs.First.{First}
 use Rattle.buffer.specs.FirstLaws.{first-fails}
+use Rattle.numbers.specs.Rounded.{roundedIn, counted}
 use Rattle.color_encoding.specs.declared.JxlColorEncoding.{JxlColorEncoding}
 use Rattle.profile.specs.Plan.{Plan}
 use Rattle.profile.specs.Shape.{minLength}
 use Rattle.profile.specs.Layout.{layout}
 use Rattle.encoding_plan.specs.PlanOf.{planOf}
-use Rattle.writer.specs.Writer.{answer, number as numberOf, profileBy, tooShort}
+use Rattle.encoding_plan.specs.FixedFloats.{fixedFloats}
+use Rattle.writer.specs.Writer.{answer, number as numberOf, countAfter, profileBy, tooShort}
 use Rattle.writer.specs.declared.Profile.{Profile}
 use Rattle.writer.specs.declared.Profile.the-variants.{Written, Refused}
 use Rattle.writer_laws.specs.RefusalList.{Check, c1, c2, c3, c4, c5, c6, c7, c8, c9, number, Passed, checks, Answers, refuses, writes}
@@ -38,7 +42,7 @@ module _ (e : JxlColorEncoding) {k : ℕ} (h : planOf e ≡ refused k) where
   before-output c9 f = absurd (first-fails f (λ p g. absurd (never (sym h ∙ g))))
 
   pub refusal-bounds : (1 ≤ k) × (k ≤ 8)
-  refusal-bounds = go (writer-answers e 0) (ap (λ c. answer c 0) h)
+  refusal-bounds = go (writer-answers e 0) (ap (λ c. answer (counted (fixedFloats e) c) 0) h)
     where
       go : {a : Profile} → Answers e 0 a → a ≡ Refused k → (1 ≤ k) × (k ≤ 8)
       go (refuses {c} f) g = let same : number c ≡ k = cc in rw (← same) (before-output c f)
@@ -46,11 +50,14 @@ module _ (e : JxlColorEncoding) {k : ℕ} (h : planOf e ≡ refused k) where
 
 -- ---- a number tells the answer
 
-pub told : (c : Checked Plan) (n : ℕ) → ((p : Plan) → c ≡ is p → minLength ≤ length (layout p)) → ((k : ℕ) → c ≡ refused k → k ≤ 99)
-    → profileBy (numberOf (answer c n)) ≡ answer c n
-told (refused k) n long low = simp (le-leb k 99 (low k refl))
-told (is p) n long low = go (leb (length (layout p)) n)
+pub told : (xs : List Float) (c : Checked Plan) (n : ℕ) → ((p : Plan) → c ≡ is p → minLength ≤ length (layout p)) → ((k : ℕ) → c ≡ refused k → k ≤ 99)
+    → (k : ℕ) → let a = answer (counted xs c) n in profileBy (numberOf a) (countAfter a k) ≡ a
+told xs (refused j) n long low k = simp (le-leb j 99 (low j refl))
+told xs (is p) n long low k = go (leb (length (layout p)) n)
   where
-    go : (b : Bool) → profileBy (numberOf (cond b (Written (length (layout p))) (Refused tooShort))) ≡ cond b (Written (length (layout p))) (Refused tooShort)
+    answered : Bool → Profile
+    answered b = cond b (Written (length (layout p)) (roundedIn xs)) (Refused tooShort)
+
+    go : (b : Bool) → profileBy (numberOf (answered b)) (countAfter (answered b) k) ≡ answered b
     go true = simp (lt-leb (length (layout p)) 99 (le-trans (lit≤ tt) (long p refl)))
     go false = refl

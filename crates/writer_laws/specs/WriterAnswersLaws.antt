@@ -12,6 +12,7 @@ use Rattle.buffer.specs.First.{fails}
 use Rattle.buffer.specs.FirstLaws.{first-unique, first-not-all}
 use Rattle.floats.specs.Abs.{abs}
 use Rattle.floats.specs.Binary32.{_⊘_, one}
+use Rattle.numbers.specs.Rounded.{roundedIn}
 use Rattle.linalg.specs.Linalg.{rows, columns}
 use Rattle.matrix_inverse.specs.Inverse.{singular}
 use Rattle.color_encoding.specs.Coordinates.{whiteXy, primariesXy}
@@ -40,6 +41,7 @@ use Rattle.encoding_plan.specs.Answers.{reciprocalRefusal}
 use Rattle.encoding_plan.specs.PlanOf.{supported, curveOf, cicpOf, grayPlan, rgbPlan, planOf}
 use Rattle.encoding_curve.specs.declared.SupportedCurve.{SupportedCurve}
 use Rattle.encoding_curve.specs.declared.SupportedCurve.the-variants as Supported
+use Rattle.encoding_plan.specs.FixedFloats.{fixedFloats, countedPlan}
 use Rattle.profile.specs.Layout.{layout}
 use Rattle.writer.specs.Writer.{answer}
 use Rattle.writer.specs.declared.Profile.{Profile}
@@ -101,7 +103,7 @@ module _ (w : JxlWhitePoint) (t : JxlTransferFunction) (i : RenderingIntent) (n 
   abbrev gray : JxlColorEncoding
   gray = GrayscaleColorSpace w t i
 
-  pub gray-answered : From gray n checks (answer (planOf gray) n)
+  pub gray-answered : From gray n checks (answer (countedPlan gray) n)
   unfolding planOf
   gray-answered =
       let xy = whiteXy w in
@@ -120,7 +122,7 @@ module _ (w : JxlWhitePoint) (p : JxlPrimaries) (t : JxlTransferFunction) (i : R
   abbrev color : JxlColorEncoding
   color = RgbColorSpace w p t i
 
-  pub rgb-answered : From color n checks (answer (planOf color) n)
+  pub rgb-answered : From color n checks (answer (countedPlan color) n)
   unfolding planOf
   rgb-answered =
       let xy = whiteXy w in
@@ -137,14 +139,14 @@ module _ (w : JxlWhitePoint) (p : JxlPrimaries) (t : JxlTransferFunction) (i : R
       step color n c8 _ (curve-decides t s a) (λ v _ f.
       last color n (rgbPlan color i v (cicpOf w p v) m k) (rw (a, b, c, d, e, f) refl)))))))))))
 
-pub xyb-answered : (i : RenderingIntent) (n : ℕ) → From (XYB i) n checks (answer (planOf (XYB i)) n)
+pub xyb-answered : (i : RenderingIntent) (n : ℕ) → From (XYB i) n checks (answer (countedPlan (XYB i)) n)
 unfolding planOf
 xyb-answered i n = onward (XYB i) n tt (go i)
   where
     other : {i : RenderingIntent} → planOf (XYB i) ≡ refused 2 → i ≡ Perceptual → ⊥
     other h e = never (sym h ∙ ap (λ (j : RenderingIntent). planOf (XYB j)) e)
 
-    go : (i : RenderingIntent) → From (XYB i) n (c2 ∷ c3 ∷ c4 ∷ c5 ∷ c6 ∷ c7 ∷ c8 ∷ c9 ∷ []) (answer (planOf (XYB i)) n)
+    go : (i : RenderingIntent) → From (XYB i) n (c2 ∷ c3 ∷ c4 ∷ c5 ∷ c6 ∷ c7 ∷ c8 ∷ c9 ∷ []) (answer (countedPlan (XYB i)) n)
     go Perceptual =
         let e = XYB Perceptual in
         onward e n refl
@@ -161,10 +163,10 @@ xyb-answered i n = onward (XYB i) n tt (go i)
 
 -- ---- every encoding
 
-pub answered : (e : JxlColorEncoding) (n : ℕ) → Answers e n (answer (planOf e) n)
+pub answered : (e : JxlColorEncoding) (n : ℕ) → Answers e n (answer (countedPlan e) n)
 answered e n = given (go e)
   where
-    go : (e : JxlColorEncoding) → From e n checks (answer (planOf e) n)
+    go : (e : JxlColorEncoding) → From e n checks (answer (countedPlan e) n)
     go (GrayscaleColorSpace w t i) = gray-answered w t i n
     go (RgbColorSpace w p t i) = rgb-answered w p t i n
     go (XYB i) = xyb-answered i n
@@ -177,4 +179,4 @@ pub answer-unique : {e : JxlColorEncoding} {n : ℕ} {a b : Profile} → Answers
 answer-unique (refuses-by f) (refuses-by g) = ap (λ (c : Check). Refused (number c)) (first-unique f g)
 answer-unique (refuses-by f) (writes-it p h all) = absurd (first-not-all f all)
 answer-unique (writes-it p h all) (refuses-by g) = absurd (first-not-all g all)
-answer-unique (writes-it p h _) (writes-it q k _) = let same : p ≡ q = cc (sym h ∙ k) in ap (λ (r : Plan). Written (length (layout r))) same
+answer-unique {e} (writes-it p h _) (writes-it q k _) = let same : p ≡ q = cc (sym h ∙ k) in ap (λ (r : Plan). Written (length (layout r)) (roundedIn (fixedFloats e))) same

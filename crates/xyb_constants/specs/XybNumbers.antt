@@ -79,3 +79,13 @@ chadFloats = entries (chadMatrix (whiteXy D65))
 
 unfoldable pub chad : List ℤ
 chad = map fixedNumber chadFloats
+
+-- ---- the floats of all these numbers, in the order of the file (02, order 5); the CLUT has no fixed numbers
+
+-- three curves with the gamma 1.0
+abbrev pub identityFloats : List Float
+identityFloats = one ∷ one ∷ one ∷ []
+
+-- `chad`; the B curves, the M curves and the matrix of A2B0, whose A curves are its B curves; the B curves of B2A0
+abbrev pub fixedFloats : List Float
+fixedFloats = chadFloats ++ identityFloats ++ mCurveFloats ++ matrixFloats ++ identityFloats

@@ -5,17 +5,18 @@ use mathlib.Core.List.{List, [], _∷_, map, flatten}
 use lib.IntN.{ℤ, pos, negsuc}
 use lib.ListN.{length}
 use lib.Ieee.{ofBits, ofInt, neg, eq, lt, le, add, sub, mul, div}
-use Rattle.numbers.specs.Fixed.{s15Fixed16}
+use Rattle.buffer.specs.Checked.{is, each}
+use Rattle.numbers.specs.Fixed.{s15Fixed16, whole, fixedOr}
 use Rattle.numbers.specs.FixedLaws.{fixedNumbers-are}
+use Rattle.numbers.specs.Rounded.{roundedIn}
 use Rattle.floats.specs.Narrow.{narrow}
-use Rattle.numbers.specs.declared.fixed.S15Fixed16.the-variants.{Number}
 use Rattle.linalg.specs.Linalg.{applied, product, dot}
 use Rattle.color_encoding.specs.Range.{inRange}
 use Rattle.white_point.specs.White.{finite, finiteXyz, whiteXyz}
 use Rattle.icc_matrix.specs.Narrowed.{narrowed}
 use Rattle.adaptation.specs.Adapt.{chadMatrix, adaptToXyzD50, adaptationMatrix, adaptable, hasZero, allFinite, lms, gains}
 use Rattle.xyb_constants.specs.XybConstants.{unscaledA2bCubeFull}
-use Rattle.xyb_constants.specs.XybNumbers.{clut, mCurveFloats, mCurves, matrixFloats, matrix, chadFloats, chad, identityGamma}
+use Rattle.xyb_constants.specs.XybNumbers.{clut, mCurveFloats, mCurves, matrixFloats, matrix, chadFloats, chad, identityGamma, fixedFloats}
 
 -- ---- the tables; `negsuc n` is -(n + 1)
 
@@ -49,15 +50,15 @@ chadTable =
 
 -- ---- by computation: the floats' fixed numbers are the tables', and none is refused
 
-mCurves-accepted : map s15Fixed16 mCurveFloats ≡ map Number mCurvesTable
+mCurves-accepted : each (fixedOr 0) mCurveFloats ≡ is mCurvesTable
 unfolding s15Fixed16 ofBits neg le add sub mul div
 mCurves-accepted = refl
 
-matrix-accepted : map s15Fixed16 matrixFloats ≡ map Number matrixTable
+matrix-accepted : each (fixedOr 0) matrixFloats ≡ is matrixTable
 unfolding s15Fixed16 narrow ofBits neg add mul
 matrix-accepted = refl
 
-chad-accepted : map s15Fixed16 chadFloats ≡ map Number chadTable
+chad-accepted : each (fixedOr 0) chadFloats ≡ is chadTable
 unfolding s15Fixed16 chadMatrix adaptToXyzD50 adaptationMatrix adaptable inRange finite finiteXyz whiteXyz hasZero allFinite lms gains narrowed applied product dot narrow flatten ofBits neg eq lt le add sub mul div
 chad-accepted = refl
 
@@ -67,15 +68,15 @@ clut-is = refl
 
 pub mCurves-is : mCurves ≡ mCurvesTable
 unfolding mCurves
-mCurves-is = fixedNumbers-are mCurveFloats mCurvesTable mCurves-accepted
+mCurves-is = fixedNumbers-are 0 mCurveFloats mCurvesTable mCurves-accepted
 
 pub matrix-is : matrix ≡ matrixTable
 unfolding matrix
-matrix-is = fixedNumbers-are matrixFloats matrixTable matrix-accepted
+matrix-is = fixedNumbers-are 0 matrixFloats matrixTable matrix-accepted
 
 pub chad-is : chad ≡ chadTable
 unfolding chad
-chad-is = fixedNumbers-are chadFloats chadTable chad-accepted
+chad-is = fixedNumbers-are 0 chadFloats chadTable chad-accepted
 
 -- ---- lengths
 
@@ -94,3 +95,9 @@ length-chad = ap length chad-is
 pub identityGamma-is : identityGamma ≡ pos 65536
 unfolding identityGamma s15Fixed16 ofBits
 identityGamma-is = refl
+
+-- ---- how many are rounded
+
+pub fixedFloats-count : roundedIn fixedFloats ≡ 28
+unfolding roundedIn whole chadMatrix adaptToXyzD50 adaptationMatrix adaptable inRange finite finiteXyz whiteXyz hasZero allFinite lms gains narrowed applied product dot narrow flatten ofBits neg eq lt le add sub mul div
+fixedFloats-count = refl

@@ -1,11 +1,16 @@
 -- `column_numbers` meets its contract: what `create_icc_rgb_matrix` answers tells its case.
 use mathlib.Core.Path.{_≡_, sym, ap, _∙_}
+use mathlib.Core.List.{List}
+use lib.Dec.{lit<}
+use lib.Ieee.{Float}
 use borrow.Author.Needs.{needs}
 use Rattle.adaptation.specs.Adapt.{invalidWhitePoint}
 use Rattle.colorimetry.specs.Primaries.{matrixInversionFailed, checkedConversion, createIccRgbMatrix}
 use Rattle.buffer.specs.OutputsLaws.{expected-if}
 use Rattle.buffer.specs.Checked.{is, each}
 use Rattle.numbers.specs.Fixed.{fixedOr}
+use Rattle.numbers.specs.Rounded.{counted}
+use Rattle.encoding_numbers.proofs.Refused.{by-number}
 use Rattle.encoding_numbers.proofs.column_numbers.Statement.{statement}
 use Rattle.encoding_numbers.proofs.column_numbers.Tie as tie
 
@@ -33,21 +38,23 @@ returns c =
     let call = told .before .before in
     let e : createIccRgbMatrix (call .before .before .args .primaries) (call .before .before .args .white) ≡ is (call .create-icc-rgb-matrix .last .1 .1 .0) =
     expected-if checkedConversion (call .create-icc-rgb-matrix .ensures) (told .enum-told .given .1) in
-    c .fixed-numbers .ensures ∙ ap (each (fixedOr 7)) (c .before .columns .ensures) ∙ sym (simp e)
+    c .fixed-numbers .ensures ∙ ap (λ (xs : List Float). counted xs (each (fixedOr 7) xs)) (c .before .columns .ensures) ∙ sym (simp e)
 
 returns-2 : tie.Need-returns-2
 returns-2 c =
-    let call = c .before .before in
+    let told = c .before in
+    let call = told .before .before in
     let e : createIccRgbMatrix (call .before .before .args .primaries) (call .before .before .args .white) ≡ invalidWhitePoint =
-    expected-if checkedConversion (call .create-icc-rgb-matrix .ensures) (c .enum-told2 .given .1) in
-    sym (simp e)
+    expected-if checkedConversion (call .create-icc-rgb-matrix .ensures) (told .enum-told2 .given .1) in
+    by-number _ (c .nine-refused .ensures) (lit< tt) ∙ sym (simp e)
 
 returns-3 : tie.Need-returns-3
 returns-3 c =
-    let call = c .before .before in
+    let told = c .before in
+    let call = told .before .before in
     let e : createIccRgbMatrix (call .before .before .args .primaries) (call .before .before .args .white) ≡ matrixInversionFailed =
-    expected-if checkedConversion (call .create-icc-rgb-matrix .ensures) (c .enum-told3 .given .1) in
-    sym (simp e)
+    expected-if checkedConversion (call .create-icc-rgb-matrix .ensures) (told .enum-told3 .given .1) in
+    by-number _ (c .nine-refused2 .ensures) (lit< tt) ∙ sym (simp e)
 
 pub column-numbers-spec : {M : Type 1} → statement M
 column-numbers-spec =
@@ -58,7 +65,9 @@ column-numbers-spec =
     columns-requires
     fixed-numbers-requires
     enum-told-2
+    (λ c κs. search needs)
     enum-told-3
+    (λ c κs. search needs)
     returns
     returns-2
     returns-3)

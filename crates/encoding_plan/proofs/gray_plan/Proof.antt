@@ -1,17 +1,26 @@
--- `gray_plan` meets its contract: each answer is that of the first check of `planOf` that refuses, or of the plan (`PlanOfLaws`).
-use mathlib.Core.Path.{_≡_, sym, ap, _∙_}
+-- `gray_plan` meets its contract: each answer is that of the first check of `planOf` that refuses, or of the plan (`PlanOfLaws`) with its count.
+use Prim.Native.Nat.{ℕ, _+_}
+use mathlib.Core.Path.{_≡_, sym, ap, ap₂, _∙_}
 use lib.Dec.{lit<}
+use lib.IntN.{ℤ}
 use mir.Syntax.{w32}
 use mir.Val.{toZ, ofZ}
+use mir.ValLaws.{toZ-ofZ}
 use borrow.Author.Needs.{needs}
 use borrow.Author.Tests.{eq-eqb, ne-eqb}
 use Rattle.buffer.specs.Checked.{is}
 use Rattle.color_encoding.specs.Coordinates.{whiteXy}
+use Rattle.color_encoding.specs.declared.WhiteXy.{WhiteXy}
+use Rattle.color_encoding.specs.declared.JxlColorEncoding.the-variants.{GrayscaleColorSpace}
+use Rattle.numbers.specs.Rounded.{Counted, counted}
+use Rattle.numbers.specs.RoundedLaws.{counted-value, counted-rounded, counted-refused}
 use Rattle.encoding_plan.specs.PlanOf.{supported, grayNumbers}
 use Rattle.encoding_plan.specs.PlanOfLaws.{gray-unsupported, gray-no-numbers, gray-no-curve, gray-plan}
-use Rattle.encoding_curve.specs.CurveOf.{checkedSupport, checkedCurve}
-use Rattle.encoding_numbers.specs.NumbersOf.{checkedGrayNumbers}
-use Rattle.encoding_plan.specs.AnswersLaws.{positive, plan-refused}
+use Rattle.encoding_plan.specs.FixedFloats.{fixedFloats}
+use Rattle.encoding_plan.specs.FixedFloatsLaws.{gray-count}
+use Rattle.encoding_curve.specs.CurveOf.{checkedSupport, checkedCurve, curveOf, curveFloats}
+use Rattle.encoding_numbers.specs.NumbersOf.{checkedGrayNumbers, grayFloats}
+use Rattle.encoding_plan.specs.AnswersLaws.{positive, refused-as, planned-as}
 use Rattle.encoding_plan.proofs.gray_plan.Statement.{statement}
 use Rattle.encoding_plan.proofs.gray_plan.Tie as tie
 
@@ -22,12 +31,15 @@ module _ (c : tie.After-gray-numbers) where
   curve-known : supported (start .args .transfer) ≡ is (c .before .before .before .named-or-gamma .given .0 .0)
   curve-known = sym (c .before .before .before .before .before .supported .ensures) ∙ ap checkedSupport (c .before .before .before .named-or-gamma .given .1)
 
-  numbers-are : grayNumbers (whiteXy (start .args .white)) ≡ checkedGrayNumbers (c .gray-numbers .result)
-  numbers-are = sym (c .gray-numbers .ensures ∙ ap grayNumbers (c .before .to-xy-coords .ensures))
+  abbrev xy : WhiteXy
+  xy = whiteXy (start .args .white)
 
-numbers-kept : (c : tie.Else1)
-    → grayNumbers (whiteXy (start (c .before .before) .args .white)) ≡ is (c .before .before .gray-numbers .result .x, c .before .before .gray-numbers .result .z)
-numbers-kept c = numbers-are (c .before .before) ∙ simp (eq-eqb _ 0 (c .if1 .left))
+  numbers-are : checkedGrayNumbers (c .gray-numbers .result) ≡ counted (grayFloats xy) (grayNumbers xy)
+  numbers-are = c .gray-numbers .ensures ∙ ap (λ (w : WhiteXy). counted (grayFloats w) (grayNumbers w)) (c .before .to-xy-coords .ensures)
+
+numbers-kept : (c : tie.Else1) → let n = c .before .before .gray-numbers .result in
+    is (record { value = (n .x, n .z); rounded = n .rounded }) ≡ counted (grayFloats (xy (c .before .before))) (grayNumbers (xy (c .before .before)))
+numbers-kept c = sym (simp (eq-eqb _ 0 (c .if1 .left))) ∙ numbers-are (c .before .before)
 
 supported-requires : tie.Need-supported-requires
 supported-requires c κs = search needs
@@ -72,33 +84,41 @@ returns : tie.Need-returns
 returns c =
     let test = c .before in
     let numbers = test .before .before in
-    plan-refused (c .refused2 .result) _ (c .refused2 .ensures) (test .if1 .taken) ∙ sym (gray-no-numbers _ _ _ (curve-known numbers) (numbers-are numbers ∙ simp (ne-eqb _ 0 (test .if1 .taken))))
+    refused-as (c .refused2 .result) _ (c .refused2 .ensures) (test .if1 .taken)
+    (gray-no-numbers _ _ _ (curve-known numbers) (counted-refused _ _ (sym (simp (ne-eqb _ 0 (test .if1 .taken))) ∙ numbers-are numbers)))
 
 returns-2 : tie.Need-returns-2
 returns-2 c =
     let told = c .before in
-    plan-refused (c .refused .result) _ (c .refused .ensures) (positive 1 (lit< tt)) ∙ sym (gray-unsupported _ _ _ (sym (told .before .before .supported .ensures) ∙ ap checkedSupport (told .enum-told .given .1)))
+    refused-as (c .refused .result) _ (c .refused .ensures) (positive 1 (lit< tt)) (gray-unsupported _ _ _ (sym (told .before .before .supported .ensures) ∙ ap checkedSupport (told .enum-told .given .1)))
 
 returns-3 : tie.Need-returns-3
 returns-3 c =
     let told = c .before in
     let curve = told .before .before in
     let kept = curve .before in
-    plan-refused (c .refused3 .result) _ (c .refused3 .ensures) (positive 8 (lit< tt))
-    ∙ sym (gray-no-curve _ _ _ (curve-known (kept .before .before)) (numbers-kept kept) (sym (curve .curve-of .ensures) ∙ ap checkedCurve (told .enum-told2 .given .1)))
+    refused-as (c .refused3 .result) _ (c .refused3 .ensures) (positive 8 (lit< tt))
+    (gray-no-curve _ _ _ (curve-known (kept .before .before)) (counted-value _ _ (numbers-kept kept)) (counted-refused _ _ (sym (ap checkedCurve (told .enum-told2 .given .1)) ∙ curve .curve-of .ensures)))
 
 returns-4 : tie.Need-returns-4
 returns-4 c =
-    let number = c .before .before .before in
+    let put = c .before in
+    let number = put .before .before .before in
     let known = number .before .before in
     let curve = known .before .before in
     let kept = curve .before in
-    let numbers = kept .before .before .gray-numbers .result in
-    let held = kept .before .before .gray-numbers .ok in
-    let x : toZ w32 (ofZ w32 (numbers .x)) ≡ numbers .x = search needs in
-    let z : toZ w32 (ofZ w32 (numbers .z)) ≡ numbers .z = search needs in
-    rw (c .gray-numbers2 .ensures, number .number .ensures, x, z)
-    (sym (gray-plan _ _ _ (curve-known (kept .before .before)) (numbers-kept kept) (sym (curve .curve-of .ensures) ∙ ap checkedCurve (known .curve .given .1))))
+    let call = kept .before .before in
+    let numbers = call .gray-numbers .result in
+    let held = put .before .before .struct-told .given in
+    let x : toZ w32 (ofZ w32 (numbers .x)) ≡ numbers .x = toZ-ofZ w32 (numbers .x) (record { sfits = held .1 .0 .1 }) in
+    let z : toZ w32 (ofZ w32 (numbers .z)) ≡ numbers .z = toZ-ofZ w32 (numbers .z) (record { sfits = held .1 .1 .0 .1 }) in
+    let s = call .before .before .before .named-or-gamma .given .0 .0 in
+    let curve-is = sym (ap checkedCurve (known .curve .given .1)) ∙ curve .curve-of .ensures in
+    rw (put .gray-numbers2 .ensures, number .number .ensures, x, z)
+    (planned-as _
+    (gray-plan _ _ _ (curve-known call) (counted-value _ _ (numbers-kept kept)) (counted-value _ _ curve-is))
+    (ap₂ (λ (m n : ℕ). m + n) (counted-rounded (grayFloats (xy call)) (grayNumbers (xy call)) (numbers-kept kept)) (counted-rounded (curveFloats s) (curveOf s) curve-is)
+    ∙ gray-count _ _ _ (curve-known call)))
 
 pub gray-plan-spec : {M : Type 1} → statement M
 gray-plan-spec =
@@ -118,6 +138,9 @@ gray-plan-spec =
     enum-known-curve
     number-requires
     gray-numbers-requires-2
+    (λ c. search needs)
+    (λ c. search needs)
+    (λ c. search needs)
     returns-2
     returns-3
     returns-4)

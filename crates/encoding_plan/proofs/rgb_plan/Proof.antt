@@ -1,15 +1,23 @@
--- `rgb_plan` meets its contract: each answer is that of the first check of `planOf` that refuses, or of the plan (`PlanOfLaws`).
+-- `rgb_plan` meets its contract: each answer is that of the first check of `planOf` that refuses, or of the plan (`PlanOfLaws`) with its count.
+use Prim.Native.Nat.{ℕ, _+_}
 use mathlib.Core.Path.{_≡_, sym, ap, ap₂, _∙_}
 use lib.Dec.{lit<}
 use borrow.Author.Needs.{needs}
 use borrow.Author.Tests.{eq-eqb, ne-eqb}
 use Rattle.buffer.specs.Checked.{is}
 use Rattle.color_encoding.specs.Coordinates.{whiteXy, primariesXy}
+use Rattle.color_encoding.specs.declared.WhiteXy.{WhiteXy}
+use Rattle.color_encoding.specs.declared.PrimariesXy.{PrimariesXy}
+use Rattle.color_encoding.specs.declared.JxlColorEncoding.the-variants.{RgbColorSpace}
+use Rattle.numbers.specs.Rounded.{Counted, counted}
+use Rattle.numbers.specs.RoundedLaws.{counted-value, counted-rounded, counted-refused}
 use Rattle.encoding_plan.specs.PlanOf.{supported, chadNumbers, columnNumbers}
 use Rattle.encoding_plan.specs.PlanOfLaws.{rgb-unsupported, rgb-no-chad, rgb-no-columns, rgb-no-curve, rgb-plan}
-use Rattle.encoding_curve.specs.CurveOf.{checkedSupport, checkedCurve}
-use Rattle.encoding_numbers.specs.NumbersOf.{checkedNineNumbers}
-use Rattle.encoding_plan.specs.AnswersLaws.{positive, plan-refused}
+use Rattle.encoding_plan.specs.FixedFloats.{fixedFloats}
+use Rattle.encoding_plan.specs.FixedFloatsLaws.{rgb-count}
+use Rattle.encoding_curve.specs.CurveOf.{checkedSupport, checkedCurve, curveOf, curveFloats}
+use Rattle.encoding_numbers.specs.NumbersOf.{checkedNineNumbers, chadFloats, columnFloats}
+use Rattle.encoding_plan.specs.AnswersLaws.{positive, refused-as, planned-as}
 use Rattle.encoding_plan.proofs.rgb_plan.Statement.{statement}
 use Rattle.encoding_plan.proofs.rgb_plan.Tie as tie
 
@@ -20,26 +28,35 @@ module _ (c : tie.After-chad-numbers) where
   curve-known : supported (start .args .transfer) ≡ is (c .before .before .before .named-or-gamma .given .0 .0)
   curve-known = sym (c .before .before .before .before .before .supported .ensures) ∙ ap checkedSupport (c .before .before .before .named-or-gamma .given .1)
 
-  chad-is : chadNumbers (whiteXy (start .args .white)) ≡ checkedNineNumbers (c .chad-numbers .result)
-  chad-is = sym (c .chad-numbers .ensures ∙ ap chadNumbers (c .before .to-xy-coords .ensures))
+  abbrev xy : WhiteXy
+  xy = whiteXy (start .args .white)
 
-chad-kept : (c : tie.Else1) → chadNumbers (whiteXy (start (c .before .before) .args .white)) ≡ is (c .before .before .chad-numbers .result .values)
-chad-kept c = chad-is (c .before .before) ∙ simp (eq-eqb _ 0 (c .if1 .left))
+  chad-is : checkedNineNumbers (c .chad-numbers .result) ≡ counted (chadFloats xy) (chadNumbers xy)
+  chad-is = c .chad-numbers .ensures ∙ ap (λ (w : WhiteXy). counted (chadFloats w) (chadNumbers w)) (c .before .to-xy-coords .ensures)
+
+chad-kept : (c : tie.Else1) → let n = c .before .before .chad-numbers .result in
+    is (record { value = n .values; rounded = n .rounded }) ≡ counted (chadFloats (xy (c .before .before))) (chadNumbers (xy (c .before .before)))
+chad-kept c = sym (simp (eq-eqb _ 0 (c .if1 .left))) ∙ chad-is (c .before .before)
 
 module _ (c : tie.After-column-numbers) where
   abbrev chad : tie.Else1
   chad = c .before .before
 
-  abbrev begun : tie.Start
-  begun = start (chad .before .before)
+  abbrev primaries : PrimariesXy
+  primaries = primariesXy (start (chad .before .before) .args .primaries)
 
-  columns-are : columnNumbers (primariesXy (begun .args .primaries)) (whiteXy (begun .args .white)) ≡ checkedNineNumbers (c .column-numbers .result)
-  columns-are = sym (c .column-numbers .ensures ∙ ap₂ columnNumbers (c .before .to-xy-coords2 .ensures) (chad .before .before .before .to-xy-coords .ensures))
+  abbrev white : WhiteXy
+  white = xy (chad .before .before)
 
-columns-kept : (c : tie.Else2)
-    → columnNumbers (primariesXy (begun (c .before .before) .args .primaries)) (whiteXy (begun (c .before .before) .args .white))
-    ≡ is (c .before .before .column-numbers .result .values)
-columns-kept c = columns-are (c .before .before) ∙ simp (eq-eqb _ 0 (c .if2 .left))
+  columns-are : checkedNineNumbers (c .column-numbers .result) ≡ counted (columnFloats primaries white) (columnNumbers primaries white)
+  columns-are =
+      c .column-numbers .ensures
+      ∙ ap₂ (λ (p : PrimariesXy) (w : WhiteXy). counted (columnFloats p w) (columnNumbers p w)) (c .before .to-xy-coords2 .ensures) (chad .before .before .before .to-xy-coords .ensures)
+
+columns-kept : (c : tie.Else2) → let n = c .before .before .column-numbers .result in
+    is (record { value = n .values; rounded = n .rounded })
+    ≡ counted (columnFloats (primaries (c .before .before)) (white (c .before .before))) (columnNumbers (primaries (c .before .before)) (white (c .before .before)))
+columns-kept c = sym (simp (eq-eqb _ 0 (c .if2 .left))) ∙ columns-are (c .before .before)
 
 supported-requires : tie.Need-supported-requires
 supported-requires c κs = search needs
@@ -96,20 +113,21 @@ returns : tie.Need-returns
 returns c =
     let test = c .before in
     let numbers = test .before .before in
-    plan-refused (c .refused2 .result) _ (c .refused2 .ensures) (test .if1 .taken) ∙ sym (rgb-no-chad _ _ _ _ (curve-known numbers) (chad-is numbers ∙ simp (ne-eqb _ 0 (test .if1 .taken))))
+    refused-as (c .refused2 .result) _ (c .refused2 .ensures) (test .if1 .taken)
+    (rgb-no-chad _ _ _ _ (curve-known numbers) (counted-refused _ _ (sym (simp (ne-eqb _ 0 (test .if1 .taken))) ∙ chad-is numbers)))
 
 returns-2 : tie.Need-returns-2
 returns-2 c =
     let test = c .before in
     let columns = test .before .before in
     let kept = chad columns in
-    plan-refused (c .refused3 .result) _ (c .refused3 .ensures) (test .if2 .taken)
-    ∙ sym (rgb-no-columns _ _ _ _ (curve-known (kept .before .before)) (chad-kept kept) (columns-are columns ∙ simp (ne-eqb _ 0 (test .if2 .taken))))
+    refused-as (c .refused3 .result) _ (c .refused3 .ensures) (test .if2 .taken)
+    (rgb-no-columns _ _ _ _ (curve-known (kept .before .before)) (counted-value _ _ (chad-kept kept)) (counted-refused _ _ (sym (simp (ne-eqb _ 0 (test .if2 .taken))) ∙ columns-are columns)))
 
 returns-3 : tie.Need-returns-3
 returns-3 c =
     let told = c .before in
-    plan-refused (c .refused .result) _ (c .refused .ensures) (positive 1 (lit< tt)) ∙ sym (rgb-unsupported _ _ _ _ (sym (told .before .before .supported .ensures) ∙ ap checkedSupport (told .enum-told .given .1)))
+    refused-as (c .refused .result) _ (c .refused .ensures) (positive 1 (lit< tt)) (rgb-unsupported _ _ _ _ (sym (told .before .before .supported .ensures) ∙ ap checkedSupport (told .enum-told .given .1)))
 
 returns-4 : tie.Need-returns-4
 returns-4 c =
@@ -117,19 +135,30 @@ returns-4 c =
     let curve = told .before .before in
     let columns = curve .before in
     let kept = chad (columns .before .before) in
-    plan-refused (c .refused4 .result) _ (c .refused4 .ensures) (positive 8 (lit< tt))
-    ∙ sym (rgb-no-curve _ _ _ _ (curve-known (kept .before .before)) (chad-kept kept) (columns-kept columns) (sym (curve .curve-of .ensures) ∙ ap checkedCurve (told .enum-told2 .given .1)))
+    refused-as (c .refused4 .result) _ (c .refused4 .ensures) (positive 8 (lit< tt))
+    (rgb-no-curve _ _ _ _ (curve-known (kept .before .before)) (counted-value _ _ (chad-kept kept)) (counted-value _ _ (columns-kept columns)) (counted-refused _ _ (sym (ap checkedCurve (told .enum-told2 .given .1)) ∙ curve .curve-of .ensures)))
 
 returns-5 : tie.Need-returns-5
 returns-5 c =
-    let number = c .before in
+    let put = c .before .before in
+    let number = put .before in
     let cicp = number .before .before .before in
     let known = cicp .before .before in
     let curve = known .before .before in
     let columns = curve .before in
     let kept = chad (columns .before .before) in
-    rw (c .rgb-numbers .ensures, number .number .ensures, cicp .cicp-of .ensures)
-    (sym (rgb-plan _ _ _ _ (curve-known (kept .before .before)) (chad-kept kept) (columns-kept columns) (sym (curve .curve-of .ensures) ∙ ap checkedCurve (known .curve .given .1))))
+    let call = kept .before .before in
+    let w = xy call in
+    let p = primaries (columns .before .before) in
+    let s = call .before .before .before .named-or-gamma .given .0 .0 in
+    let curve-is = sym (ap checkedCurve (known .curve .given .1)) ∙ curve .curve-of .ensures in
+    rw (put .rgb-numbers .ensures, number .number .ensures, cicp .cicp-of .ensures)
+    (planned-as _
+    (rgb-plan _ _ _ _ (curve-known call) (counted-value _ _ (chad-kept kept)) (counted-value _ _ (columns-kept columns)) (counted-value _ _ curve-is))
+    (ap₂ (λ (m n : ℕ). m + n)
+    (ap₂ (λ (m n : ℕ). 2 + m + n) (counted-rounded (chadFloats w) (chadNumbers w) (chad-kept kept)) (counted-rounded (columnFloats p w) (columnNumbers p w) (columns-kept columns)))
+    (counted-rounded (curveFloats s) (curveOf s) curve-is)
+    ∙ rgb-count _ _ _ (curve-known call) _))
 
 pub rgb-plan-spec : {M : Type 1} → statement M
 rgb-plan-spec =
@@ -154,6 +183,12 @@ rgb-plan-spec =
     cicp-of-requires
     number-requires
     rgb-numbers-requires
+    (λ c. search needs)
+    (λ c. search needs)
+    (λ c. search needs)
+    (λ c. search needs)
+    (λ c. search needs)
+    (λ c. search needs)
     returns-3
     returns-4
     returns-5)

@@ -4,7 +4,8 @@ use lib.Dec.{lit<}
 use borrow.Author.Needs.{needs}
 use Rattle.color_encoding.specs.declared.JxlColorEncoding.the-variants.{XYB}
 use Rattle.encoding_plan.specs.PlanOf.{planOf}
-use Rattle.encoding_plan.specs.AnswersLaws.{positive, plan-refused}
+use Rattle.encoding_plan.specs.AnswersLaws.{positive, refused-as, planned-as}
+use Rattle.encoding_plan.specs.FixedFloatsLaws.{xyb-count}
 use Rattle.encoding_plan.proofs.xyb_plan.Statement.{statement}
 use Rattle.encoding_plan.proofs.xyb_plan.Tie as tie
 
@@ -34,19 +35,21 @@ refused-requires-3 c κs = search needs
 
 returns : tie.Need-returns
 unfolding planOf
-returns c = rw (c .xyb-numbers .ensures) (sym (ap (λ i. planOf (XYB i)) (c .before .enum-told .given .1)))
+returns c =
+    let i = c .before .before .before .args .intent in
+    rw (c .xyb-numbers .ensures) (planned-as (XYB i) (ap (λ j. planOf (XYB j)) (c .before .enum-told .given .1)) (sym (xyb-count i)))
 
 returns-2 : tie.Need-returns-2
 unfolding planOf
-returns-2 c = plan-refused (c .refused .result) _ (c .refused .ensures) (positive 2 (lit< tt)) ∙ sym (ap (λ i. planOf (XYB i)) (c .before .enum-told2 .given .1))
+returns-2 c = refused-as (c .refused .result) _ (c .refused .ensures) (positive 2 (lit< tt)) (ap (λ i. planOf (XYB i)) (c .before .enum-told2 .given .1))
 
 returns-3 : tie.Need-returns-3
 unfolding planOf
-returns-3 c = plan-refused (c .refused2 .result) _ (c .refused2 .ensures) (positive 2 (lit< tt)) ∙ sym (ap (λ i. planOf (XYB i)) (c .before .enum-told3 .given .1))
+returns-3 c = refused-as (c .refused2 .result) _ (c .refused2 .ensures) (positive 2 (lit< tt)) (ap (λ i. planOf (XYB i)) (c .before .enum-told3 .given .1))
 
 returns-4 : tie.Need-returns-4
 unfolding planOf
-returns-4 c = plan-refused (c .refused3 .result) _ (c .refused3 .ensures) (positive 2 (lit< tt)) ∙ sym (ap (λ i. planOf (XYB i)) (c .before .enum-told4 .given .1))
+returns-4 c = refused-as (c .refused3 .result) _ (c .refused3 .ensures) (positive 2 (lit< tt)) (ap (λ i. planOf (XYB i)) (c .before .enum-told4 .given .1))
 
 pub xyb-plan-spec : {M : Type 1} → statement M
 xyb-plan-spec =
@@ -54,6 +57,7 @@ xyb-plan-spec =
     (tie.spec
     enum-told
     xyb-numbers-requires
+    (λ c. search needs)
     enum-told-2
     refused-requires
     enum-told-3

@@ -7,7 +7,7 @@ use lib.ListN.{length, replicate, length-append}
 use Rattle.buffer.specs.Puts.{PutsText}
 use Rattle.buffer.specs.PutsLaws.{then, same, wrote}
 use Rattle.job.specs.declared.JobEntry.{JobEntry}
-use Rattle.encoding_plan.specs.PlanOf.{planOf}
+use Rattle.encoding_plan.specs.FixedFloats.{countedPlan}
 use Rattle.writer.specs.declared.Profile.{Profile}
 use Rattle.entry_output.specs.EntryOutput.{enough, lengthOrRefusal}
 use Rattle.line_text.specs.LineText.{placeText}
@@ -44,7 +44,7 @@ slice-aggregate-put-byte c = search needs
 
 -- the line without its newline
 abbrev front : JobEntry → List ℕ
-front e = placeText (e .section) (e .place) ++ lengthOrRefusal (enough (planOf (e .encoding)))
+front e = placeText (e .section) (e .place) ++ lengthOrRefusal (enough (countedPlan (e .encoding)))
 
 record Texted (e : JobEntry) (r : ℕ) (o : List ℕ) : Type 0 where
   puts : PutsText (replicate 24 0) 0 (front e) r o
@@ -56,7 +56,7 @@ texted : (c : tie.After-put-answer) → Texted (c .before .before .before .befor
 texted c =
     let start = c .before .before .before .before .before .before in
     let e = start .args .entry in
-    let a = enough (planOf (e .encoding)) in
+    let a = enough (countedPlan (e .encoding)) in
     let few : length (front e) ≤ 18 =
     rw length-append (omega (arith, length-place (e .section) (e .place) (start .pre .section) (start .pre .place), length-answer a (small-answer (e .encoding) (start .pre .floats)))) in
     let told = same (lengthOrRefusal a) (c .put-answer .ensures) (ap lengthOrRefusal (sym (c .before .measure .ensures))) in

@@ -3,6 +3,7 @@ use mathlib.Core.Path.{sym, ap, _∙_}
 use native.Mathlib.Omega.{arith}
 use lib.ListN.{length}
 use Rattle.encoding_plan.specs.PlanOf.{planOf}
+use Rattle.encoding_plan.specs.FixedFloats.{fixedFloats}
 use Rattle.entry_output.specs.EntryOutput.{partOf}
 use Rattle.entry_output.specs.EntryOutputLaws.{written-is, refused-is, profile-most}
 use Rattle.entry_output.specs.declared.Stream.{Stream}
@@ -41,14 +42,14 @@ returns-2 : tie.Need-returns-2
 returns-2 c =
     let start = c .before .before .before .before .before .before in
     let e = start .args .entry in
-    let is = written-is (planOf (e .encoding)) (sym (c .before .before .before .measure .ensures) ∙ c .before .n .given .1) in
+    let is = written-is (fixedFloats (e .encoding)) (planOf (e .encoding)) (sym (c .before .before .before .measure .ensures) ∙ c .before .n .given .1) in
     record { count = is ∙ sym (ap (λ (s : Stream). length (partOf s e)) (c .before .before .before .before .enum-told2 .given .1)); most = omega (arith, is, profile-most (e .encoding) (start .pre .floats)) }
 
 returns-3 : tie.Need-returns-3
 returns-3 c =
     let start = c .before .before .before .before .before in
     let e = start .args .entry in
-    let is = refused-is (planOf (e .encoding)) (sym (c .before .before .measure .ensures) ∙ c .enum-told3 .given .1) in
+    let is = refused-is (fixedFloats (e .encoding)) (planOf (e .encoding)) (sym (c .before .before .measure .ensures) ∙ c .enum-told3 .given .1) in
     record { count = is ∙ sym (ap (λ (s : Stream). length (partOf s e)) (c .before .before .before .enum-told2 .given .1)); most = omega arith }
 
 pub part-length-spec : {M : Type 1} → statement M

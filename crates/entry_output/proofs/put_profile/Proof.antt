@@ -5,6 +5,7 @@ use native.Mathlib.Omega.{arith}
 use lib.ListN.{length}
 use borrow.Rule.Slice.PartMut.{putMid}
 use Rattle.encoding_plan.specs.PlanOf.{planOf}
+use Rattle.encoding_plan.specs.FixedFloats.{fixedFloats}
 use Rattle.entry_output.specs.EntryOutputLaws.{written-is, refused-is, lent-answer, lent-output}
 use borrow.Author.Needs.{needs}
 use Rattle.entry_output.proofs.put_profile.Statement.{statement}
@@ -42,10 +43,11 @@ returns c =
     let start = c .before .before .before .before .before .before .before .before in
     let call = c .before .before .before .before .before .maybe-create-profile .ensures .writes in
     let p = planOf (start .args .encoding) in
-    let told = sym (call .answer ∙ lent-answer (start .args .out .now) (start .args .at) p (start .pre)) ∙ c .before .n .given .1 in
+    let xs = fixedFloats (start .args .encoding) in
+    let told = sym (call .answer ∙ lent-answer (start .args .out .now) (start .args .at) xs p (start .pre)) ∙ c .before .n .given .1 in
     record {
       size = refl;
-      place = ap (λ (n : ℕ). start .args .at + n) (written-is p told);
+      place = ap (λ (n : ℕ). start .args .at + n) (written-is xs p told);
       bytes = ap (putMid (start .args .at) (length (start .args .out .now) - start .args .at) (start .args .out .now)) (call .output) ∙ lent-output (start .args .out .now) (start .args .at) p (start .pre);
     }
 
@@ -57,10 +59,11 @@ returns-2 c =
     let start = c .before .before .before .before .before .before .before in
     let call = c .before .before .before .before .maybe-create-profile .ensures .writes in
     let p = planOf (start .args .encoding) in
-    let told = sym (call .answer ∙ lent-answer (start .args .out .now) (start .args .at) p (start .pre)) ∙ c .enum-told .given .1 in
+    let xs = fixedFloats (start .args .encoding) in
+    let told = sym (call .answer ∙ lent-answer (start .args .out .now) (start .args .at) xs p (start .pre)) ∙ c .enum-told .given .1 in
     record {
       size = refl;
-      place = omega (arith, refused-is p told);
+      place = omega (arith, refused-is xs p told);
       bytes = ap (putMid (start .args .at) (length (start .args .out .now) - start .args .at) (start .args .out .now)) (call .output) ∙ lent-output (start .args .out .now) (start .args .at) p (start .pre);
     }
 

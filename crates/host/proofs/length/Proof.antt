@@ -6,7 +6,7 @@ use Rattle.host.proofs.length.Statement.{statement}
 use Rattle.host.proofs.length.Tie as tie
 
 returns : tie.Need-returns
-returns c = rw (c .enum-told .given .1) (record { told = refl; answer = refl })
+returns c = rw (c .enum-told .given .1) (record { told = λ k. refl; answer = refl })
 
 returns-2 : tie.Need-returns-2
 returns-2 c =

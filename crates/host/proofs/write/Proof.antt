@@ -37,7 +37,7 @@ returns-2 c =
     rw (call .before .before .before .code .given .1) (code-written (call .maybe-create-profile .ensures) (c .before .number .given .1))
 
 returns-3 : tie.Need-returns-3
-returns-3 c = rw (c .enum-told .given .1) (record { writes = record { answer = refl; output = refl }; told = refl })
+returns-3 c = rw (c .enum-told .given .1) (record { writes = record { answer = refl; output = refl }; told = λ k. refl })
 
 pub write-spec : {M : Type 1} → statement M
 write-spec =

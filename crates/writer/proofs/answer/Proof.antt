@@ -15,7 +15,9 @@ use Rattle.profile.specs.PlanLaws.{Nines, letters-by, nines-by}
 use Rattle.profile.specs.Shape.{shape}
 use Rattle.profile.specs.Layout.{layout}
 use Rattle.profile.specs.LayoutLaws.{length-layout}
-use Rattle.encoding_plan.specs.PlanOf.{planOf}
+use Rattle.numbers.specs.Rounded.{Counted}
+use Rattle.numbers.specs.RoundedLaws.{counted-value}
+use Rattle.encoding_plan.specs.FixedFloats.{fixedFloats, countedPlan}
 use Rattle.encoding_plan.specs.AnswersLaws.{plan-refused, plan-given}
 use Rattle.encoding_plan.specs.WhiteLaws.{planned-in-range}
 use Rattle.writer.specs.Writer.{answer}
@@ -24,8 +26,8 @@ use Rattle.writer.proofs.answer.Statement.{statement}
 use Rattle.writer.proofs.answer.Tie as tie
 
 -- the answer to a plan that is known
-by-plan : (s : tie.Start) {c : Checked Plan} → planOf (s .args .encoding) ≡ c → answer (planOf (s .args .encoding)) (s .args .capacity) ≡ answer c (s .args .capacity)
-by-plan s e = ap (λ (c : Checked Plan). answer c (s .args .capacity)) e
+by-plan : (s : tie.Start) {c : Checked (Counted Plan)} → countedPlan (s .args .encoding) ≡ c → answer (countedPlan (s .args .encoding)) (s .args .capacity) ≡ answer c (s .args .capacity)
+by-plan s e = ap (λ (c : Checked (Counted Plan)). answer c (s .args .capacity)) e
 
 returns : tie.Need-returns
 returns c = let s = c .before .before in sym (by-plan s (sym (s .pre) ∙ plan-refused (s .args .planned) _ refl (c .if1 .taken)))
@@ -41,13 +43,16 @@ module _ (c : tie.Else1) where
   abbrev plan : Plan
   plan = Plans.planOf (start .args .planned .plan) text
 
-  given : planOf (start .args .encoding) ≡ is plan
+  abbrev with-count : Counted Plan
+  with-count = record { value = plan; rounded = start .args .planned .rounded }
+
+  given : countedPlan (start .args .encoding) ≡ is with-count
   given = sym (start .pre) ∙ plan-given (start .args .planned) _ (c .if1 .left)
 
   few : shape plan .letters ≤ maxLetters
   few =
       letters-by (start .args .planned .plan) text
-      (length-in-range (start .args .encoding) (held-encoding (start .args .encoding) _ (start .good .0)) (planned-in-range _ given))
+      (length-in-range (start .args .encoding) (held-encoding (start .args .encoding) _ (start .good .0)) (planned-in-range _ (counted-value (fixedFloats (start .args .encoding)) _ (sym given))))
 
   nines : Nines (plan .content)
   nines = nines-by (start .args .planned .plan) text (search needs) (search needs)
@@ -64,7 +69,7 @@ length-requires c κs = rw (shaped c) (few (c .before .before .before))
 returns-2 : tie.Need-returns-2
 returns-2 c =
     let else = c .before .before .before .before .before in
-    too-short (plan else) _ _ (size (c .before)) (c .if2 .taken) ∙ sym (by-plan (start else) (given else))
+    too-short (with-count else) _ _ (size (c .before)) (c .if2 .taken) ∙ sym (by-plan (start else) (given else))
 
 cast-t9 : tie.Need-cast-t9
 cast-t9 c = let else = c .before .before .before .before .before in short-layout (plan else) (nines else) (few else) (size (c .before))
@@ -72,7 +77,7 @@ cast-t9 c = let else = c .before .before .before .before .before in short-layout
 returns-3 : tie.Need-returns-3
 returns-3 c =
     let else = c .before .before .before .before .before in
-    enough (plan else) _ _ (size (c .before)) (c .if2 .left) ∙ sym (by-plan (start else) (given else))
+    enough (with-count else) _ _ (size (c .before)) (c .if2 .left) ∙ sym (by-plan (start else) (given else))
 
 pub answer-spec : {M : Type 1} → statement M
 answer-spec =

@@ -10,7 +10,10 @@ use Rattle.text.specs.Description.{description}
 use Rattle.text.proofs.HeldValues.{held-encoding}
 use Rattle.profile.specs.Numbers as Plans
 use Rattle.profile.specs.Layout.{layout}
+use Rattle.buffer.specs.Checked.{is}
+use Rattle.numbers.specs.Rounded.{counted}
 use Rattle.encoding_plan.specs.PlanOf.{planOf}
+use Rattle.encoding_plan.specs.FixedFloats.{fixedFloats}
 use Rattle.encoding_plan.specs.WhiteLaws.{planned-in-range}
 use Rattle.writer.specs.Writer.{Writes, Creates}
 use Rattle.writer.specs.declared.Profile.{Profile}
@@ -18,7 +21,7 @@ use Rattle.writer.proofs.Laying.{Accepted, accepted, same-plan, laid-ou
 use Rattle.writer.proofs.maybe_create_profile.Statement.{statement}
 use Rattle.writer.proofs.maybe_create_profile.Tie as tie
 
-created : (s : tie.Start) {before after : List ℕ} {r : Profile} → Writes (λ p. p) (planOf (s .args .encoding)) before after r → Creates (s .args .encoding) before after r
+created : (s : tie.Start) {before after : List ℕ} {r : Profile} → Writes (λ p. p) (is (s .args .encoding)) before after r → Creates (s .args .encoding) before after r
 created s w = record { writes = w; held = held-encoding (s .args .encoding) _ (s .good .0) }
 
 -- where the answer is a length
@@ -27,10 +30,12 @@ module _ (c : tie.After-answered) where
   start = c .before .before .before .before .before
 
   fits : Accepted (planOf (start .args .encoding)) (length (start .args .out .now)) (c .answered .given .0 .0)
-  fits = accepted _ _ _ (sym (c .before .before .answer .ensures) ∙ c .answered .given .1)
+  fits = accepted (fixedFloats (start .args .encoding)) _ _ (sym (c .before .before .answer .ensures) ∙ c .answered .given .1)
 
   planned : Plans.planOf (c .before .before .before .plan-of .result .plan) (description (start .args .encoding)) ≡ fits .plan
-  planned = same-plan (c .before .before .before .plan-of .result) (start .args .encoding) (c .before .before .before .plan-of .ensures ∙ fits .is-plan)
+  planned =
+      let floats = fixedFloats (start .args .encoding) in
+      same-plan (c .before .before .before .plan-of .result) (start .args .encoding) floats (c .before .before .before .plan-of .ensures ∙ ap (counted floats) (fits .is-plan))
 
 put-profile-requires : tie.Need-put-profile-requires
 put-profile-requires c κs =
@@ -52,7 +57,7 @@ returns-2 c =
     let call = c .before .before in
     let s = call .before .before .before in
     created s
-    (record { answer = call .answer .ensures; output = untouched (planOf (s .args .encoding)) (s .args .out .now) (sym (call .answer .ensures) ∙ c .enum-told .given .1) })
+    (record { answer = call .answer .ensures; output = untouched (fixedFloats (s .args .encoding)) (planOf (s .args .encoding)) (s .args .out .now) (sym (call .answer .ensures) ∙ c .enum-told .given .1) })
 
 pub maybe-create-profile-spec : {M : Type 1} → statement M
 maybe-create-profile-spec =

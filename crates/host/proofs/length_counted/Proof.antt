@@ -1,0 +1,17 @@
+-- The number and the count of what the dry call answers, or 43 for a code without meaning. Assumes nothing.
+use mathlib.Core.Path.{refl}
+use Rattle.host.specs.HostLaws.{count-measured}
+use borrow.Author.Needs.{needs}
+use Rattle.host.proofs.length_counted.Statement.{statement}
+use Rattle.host.proofs.length_counted.Tie as tie
+
+returns : tie.Need-returns
+returns c =
+    let call = c .before .before in
+    rw (call .before .before .code .given .1, c .answered .ensures .0, c .answered .ensures .1) (count-measured _ (call .profile-length .ensures))
+
+returns-2 : tie.Need-returns-2
+returns-2 c = rw (c .enum-told .given .1) (record { measures = record { told = λ k. refl; answer = refl }; rounded = refl })
+
+pub length-counted-spec : {M : Type 1} → statement M
+length-counted-spec = tie.close (tie.spec (λ c. search needs) (λ c κs. search needs) (λ c κs. search needs) (λ c. search needs) returns returns-2)
