@@ -163,6 +163,15 @@ module _ (f before after : List ℕ) (r : ℕ) (h : ReadsPlan (reading (read f))
 written-length : {n m j k : ℕ} → Written m j ≡ Written n k → m ≡ n
 written-length e = cc
 
+-- a count that was answered is that of a plan
+pub count-of : (xs : List Float) (c : Checked Plan) (room : ℕ) {n k : ℕ} → Written n k ≡ answer (counted xs c) room → (p : Plan) × (c ≡ is p) × (k ≡ roundedIn xs)
+count-of xs (refusedBy j) room w = absurd (written-not-refused (sym w))
+count-of xs (is p) room {n} {k} w = (p, refl, go (leb (length (layout p)) room) w)
+  where
+    go : (b : Bool) → Written n k ≡ cond b (Written (length (layout p)) (roundedIn xs)) (Refused tooShort) → k ≡ roundedIn xs
+    go true e = cc
+    go false e = absurd (written-not-refused (sym e))
+
 -- a plan that was written is the front of the output
 pub front-of : (xs : List Float) (c : Checked Plan) {n k : ℕ} (before after : List ℕ) → Written n k ≡ answer (counted xs c) (length before) → after ≡ output c before
     → (p : Plan) × (c ≡ is p) × (take n after ≡ layout p)

@@ -10,3 +10,4 @@ pub mod TypedTextLaws
 pub mod TypedText
 pub mod SegmentsInCLaws
 pub mod SegmentsInC
+pub mod RoundedCount

@@ -18,7 +18,7 @@ use Rattle.numbers.specs.declared.fixed.S15Fixed16.the-variants.{Number,
 
 -- ---- the range
 
-natAbs-signed : (s : Bool) (n : ℕ) → natAbs (signed s n) ≡ n
+pub natAbs-signed : (s : Bool) (n : ℕ) → natAbs (signed s n) ≡ n
 natAbs-signed true zero = refl
 natAbs-signed true (suc n) = refl
 natAbs-signed false n = refl
@@ -41,7 +41,7 @@ number-within x z e = rw e at (fixedNumber-within x)
 
 -- ---- a float that has a fixed number
 
-no-number : {z : ℤ} {w : Bool} → OutOfRange ≡ Number z w → ⊥
+pub no-number : {z : ℤ} {w : Bool} → OutOfRange ≡ Number z w → ⊥
 no-number e = let zero-one : _≡_ {A = ℕ} 0 1 = cc in omega arith
 
 -- the mark beside the number is that of the float

@@ -2,3 +2,4 @@ pub mod Fixed
 pub mod FixedLaws
 pub mod Rounded
 pub mod RoundedLaws
+pub mod Exact

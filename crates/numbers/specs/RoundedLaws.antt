@@ -34,6 +34,11 @@ pub roundedIn-one : (x : Float) → roundedIn (x ∷ []) ≡ oneIfRounded (whole
 unfolding roundedIn
 roundedIn-one x = omega arith
 
+pub roundedIn-most : (xs : List Float) → roundedIn xs ≤ length xs
+unfolding roundedIn
+roundedIn-most [] = omega arith
+roundedIn-most (x ∷ xs) = omega (arith, most-one (whole x), roundedIn-most xs)
+
 -- ---- a count made float by float: so many in the first k
 
 module _ (v : List Float) where

@@ -8,3 +8,6 @@ pub mod WriterAnswersLaws
 pub mod WriterAnswers
 pub mod RefusalNumbersLaws
 pub mod RefusalNumbers
+pub mod FileNumbers
+pub mod FileNumbersLaws
+pub mod NumbersOfFloats
