@@ -1,7 +1,7 @@
 #!/bin/sh
 # Builds the port as static libraries and tries it against the original.
 #
-#   differential/compare.sh leaves|validate|writer|jobs|reader|typed|segments COUNT [SEED]
+#   differential/compare.sh leaves|validate|writer|counts|jobs|reader|typed|segments COUNT [SEED]
 #   differential/compare.sh profiles FOLDER
 #   differential/compare.sh floats
 #   differential/compare.sh bench
@@ -23,7 +23,7 @@ is_number() {
     esac
 }
 case ${1-} in
-leaves | validate | writer | jobs | reader | typed | segments)
+leaves | validate | writer | counts | jobs | reader | typed | segments)
     [ $# -eq 2 ] || [ $# -eq 3 ] || usage "$1 takes COUNT and perhaps SEED"
     is_number "$2" && [ "$2" -gt 0 ] || usage "COUNT is a number above 0, not '$2'"
     is_number "${3-1}" || usage "SEED is a number, not '$3'"
@@ -102,9 +102,15 @@ else
     printf '%s\n' "$sum" >"$out/port.sum"
 fi
 
+# Counts have a program of their own.
+program=compare
+if [ "$1" = counts ]; then
+    program=counts
+    shift
+fi
 echo "compare.sh: building the comparison" >&2
-rm -rf "$out/compare"
-cp -R "$here/compare" "$out/compare"
-cd "$out/compare"
+rm -rf "${out:?}/$program"
+cp -R "$here/$program" "$out/$program"
+cd "$out/$program"
 PORT_LIBRARIES=$out/port/target/staticlib cargo build --release --offline --quiet --target-dir "$out/target"
-"$out/target/release/compare" "$@"
+"$out/target/release/$program" "$@"

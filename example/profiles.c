@@ -1,4 +1,5 @@
-/* Writes the profiles of sRGB and of an own encoding to files, prints their lengths and ids, and shows a refusal.
+/* Writes the profiles of sRGB and of an own encoding to files, prints their lengths and ids, and shows a count of numbers
+ * that were rounded and a refusal.
  *
  *    cc -o profiles profiles.c $(pkg-config --cflags --libs merqyduk)
  *    ./profiles
@@ -40,14 +41,16 @@ int main(void) {
                                          MERQYDUK_INTENT_PERCEPTUAL, profile, sizeof profile);
     failed |= save("srgb.icc", answer, profile);
 
-    /* An own white, own primaries and a display gamma of 2.2. */
-    answer = merqyduk_write_rgb(MERQYDUK_WHITE_OWN, 0.3457f, 0.3585f,                  /* x, y */
-                                MERQYDUK_PRIMARIES_OWN, 0.64f, 0.33f,                  /* red x, y */
-                                0.21f, 0.71f,                                          /* green x, y */
-                                0.15f, 0.06f,                                          /* blue x, y */
-                                MERQYDUK_CURVE_GAMMA, 1 / 2.2f,                        /* the exponent that encodes */
-                                MERQYDUK_INTENT_RELATIVE, profile, sizeof profile);
+    /* An own white, own primaries and a display gamma of 2.2, and how many of the profile's numbers were rounded. */
+    uint32_t rounded = 0;
+    answer = merqyduk_write_rgb_counted(MERQYDUK_WHITE_OWN, 0.3457f, 0.3585f,          /* x, y */
+                                        MERQYDUK_PRIMARIES_OWN, 0.64f, 0.33f,          /* red x, y */
+                                        0.21f, 0.71f,                                  /* green x, y */
+                                        0.15f, 0.06f,                                  /* blue x, y */
+                                        MERQYDUK_CURVE_GAMMA, 1 / 2.2f,                /* the exponent that encodes */
+                                        MERQYDUK_INTENT_RELATIVE, profile, sizeof profile, &rounded);
     failed |= save("own.icc", answer, profile);
+    printf("own.icc: %u of its numbers were rounded\n", (unsigned)rounded);
 
     /* PQ is refused, and no file is written. */
     answer = merqyduk_write_gray(MERQYDUK_WHITE_D65, 0, 0, MERQYDUK_CURVE_PQ, 0, MERQYDUK_INTENT_RELATIVE, profile,

@@ -1,4 +1,5 @@
-// Writes the profiles of sRGB and of an own encoding to files, prints their lengths and ids, and shows a refusal.
+// Writes the profiles of sRGB and of an own encoding to files, prints their lengths and ids, and shows a count of numbers that
+// were rounded and a refusal.
 //
 //    c++ -o profiles profiles.cpp $(pkg-config --cflags --libs merqyduk)
 //    ./profiles
@@ -36,10 +37,12 @@ static bool save(const char *name, const Encoding &encoding) {
 int main() {
     bool ok = save("srgb.icc", Encoding::srgb());
 
-    // An own white, own primaries and a display gamma of 2.2.
-    ok &= save("own.icc", Encoding::rgb(White::own(0.3457f, 0.3585f),
-                                        Primaries::own(0.64f, 0.33f, 0.21f, 0.71f, 0.15f, 0.06f),
-                                        Curve::display_gamma(2.2f), Intent::relative));
+    // An own white, own primaries and a display gamma of 2.2, and how many of the profile's numbers were rounded.
+    const Encoding own = Encoding::rgb(White::own(0.3457f, 0.3585f),
+                                       Primaries::own(0.64f, 0.33f, 0.21f, 0.71f, 0.15f, 0.06f),
+                                       Curve::display_gamma(2.2f), Intent::relative);
+    ok &= save("own.icc", own);
+    std::printf("own.icc: %u of its numbers were rounded\n", unsigned(merqyduk::write(own).rounded()));
 
     // PQ is refused, and no file is written.
     ok &= !save("pq.icc", Encoding::gray(White::d65(), Curve::pq(), Intent::relative));

@@ -14,6 +14,7 @@ struct arguments {
     const uint8_t *job;
     size_t job_len, i;
     uint8_t out[MERQYDUK_MAX_PROFILE];
+    uint32_t rounded;
     /* The last profile that was written, which is read, and its plan. */
     uint8_t file[MERQYDUK_MAX_PROFILE];
     size_t file_len;
@@ -56,6 +57,32 @@ static void length_rgb(struct arguments *a) {
 }
 
 static void length_xyb(struct arguments *a) { merqyduk_length_xyb(a->intent, sizeof a->out); }
+
+static void gray_counted(struct arguments *a) {
+    merqyduk_write_gray_counted(a->white, a->floats[0], a->floats[1], a->curve, a->floats[8], a->intent, a->out, sizeof a->out,
+                                &a->rounded);
+}
+
+static void rgb_counted(struct arguments *a) {
+    const float *f = a->floats;
+    merqyduk_write_rgb_counted(a->white, f[0], f[1], a->primaries, f[2], f[3], f[4], f[5], f[6], f[7], a->curve, f[8], a->intent,
+                               a->out, sizeof a->out, &a->rounded);
+}
+
+static void xyb_counted(struct arguments *a) { merqyduk_write_xyb_counted(a->intent, a->out, sizeof a->out, &a->rounded); }
+
+static void length_gray_counted(struct arguments *a) {
+    merqyduk_length_gray_counted(a->white, a->floats[0], a->floats[1], a->curve, a->floats[8], a->intent, sizeof a->out,
+                                 &a->rounded);
+}
+
+static void length_rgb_counted(struct arguments *a) {
+    const float *f = a->floats;
+    merqyduk_length_rgb_counted(a->white, f[0], f[1], a->primaries, f[2], f[3], f[4], f[5], f[6], f[7], a->curve, f[8], a->intent,
+                                sizeof a->out, &a->rounded);
+}
+
+static void length_xyb_counted(struct arguments *a) { merqyduk_length_xyb_counted(a->intent, sizeof a->out, &a->rounded); }
 
 static void job(struct arguments *a) {
     uint32_t entries;
@@ -179,6 +206,12 @@ int main(void) {
                  {"merqyduk_length_gray", length_gray},
                  {"merqyduk_length_rgb", length_rgb},
                  {"merqyduk_length_xyb", length_xyb},
+                 {"merqyduk_write_gray_counted", gray_counted},
+                 {"merqyduk_write_rgb_counted", rgb_counted},
+                 {"merqyduk_write_xyb_counted", xyb_counted},
+                 {"merqyduk_length_gray_counted", length_gray_counted},
+                 {"merqyduk_length_rgb_counted", length_rgb_counted},
+                 {"merqyduk_length_xyb_counted", length_xyb_counted},
                  {"merqyduk_job", job},
                  {"merqyduk_job_profile", job_profile},
                  {"merqyduk_read", read_plan},
@@ -230,7 +263,7 @@ int main(void) {
     int failed = 0;
     printf("stack: %d of the encodings led to a profile that was read, %d texts were read, and %d profiles joined\n", accepted, read, joined);
     for (int i = 0; i < CALLS; i++) {
-        printf("stack: %-26s %5zu bytes at most over %d encodings\n", calls[i].name, most[i], ENCODINGS);
+        printf("stack: %-28s %5zu bytes at most over %d encodings\n", calls[i].name, most[i], ENCODINGS);
         if (most[i] > MERQYDUK_STACK) failed = 1;
     }
     if (failed) printf("FAILED: a call takes more than MERQYDUK_STACK, %d bytes\n", MERQYDUK_STACK);

@@ -2,13 +2,15 @@
 // without an output for each of them; outputs, jobs, files and texts that end at a page that may not be touched; numbers without meaning, and jobs
 // that are cut or have bytes left. Reads each profile back, finds its elements, and has files refused by each number. Puts files into segments of many
 // sizes and joins them, in order and out of it, whole and damaged. Types every named encoding, numbers of one's own, and texts that are no
-// description. Writes the accepted profiles into the folder that it is given.
+// description. Makes each call also with a count of numbers that were rounded, and counts them once more by their floats. Writes the accepted
+// profiles into the folder that it is given.
 #include "merqyduk.h"
 
 #include <sys/mman.h>
 #include <unistd.h>
 
 #include <algorithm>
+#include <array>
 #include <cmath>
 #include <cstddef>
 #include <cstdio>
@@ -26,10 +28,14 @@ namespace {
 
 using Bytes = std::vector<uint8_t>;
 
-// A call that writes, and, for an encoding, the one that answers the same without an output.
+// A call that writes, and, for an encoding, the one that answers the same without an output; then both with a count, and how many fixed numbers
+// of the profile are looked at for it.
 struct Call {
     std::function<uint32_t(uint8_t *, size_t)> write;
     std::function<uint32_t(size_t)> length;
+    std::function<uint32_t(uint8_t *, size_t, uint32_t *)> write_counted;
+    std::function<uint32_t(size_t, uint32_t *)> length_counted;
+    uint32_t numbers;
     uint32_t operator()(uint8_t *out, size_t n) const { return write(out, n); }
 };
 
@@ -46,7 +52,14 @@ void expect(bool ok, const std::string &what) {
 
 Call gray(uint32_t white, float wx, float wy, uint32_t curve, float gamma, uint32_t intent) {
     return {[=](uint8_t *out, size_t n) { return merqyduk_write_gray(white, wx, wy, curve, gamma, intent, out, n); },
-            [=](size_t n) { return merqyduk_length_gray(white, wx, wy, curve, gamma, intent, n); }};
+            [=](size_t n) { return merqyduk_length_gray(white, wx, wy, curve, gamma, intent, n); },
+            [=](uint8_t *out, size_t n, uint32_t *rounded) {
+                return merqyduk_write_gray_counted(white, wx, wy, curve, gamma, intent, out, n, rounded);
+            },
+            [=](size_t n, uint32_t *rounded) {
+                return merqyduk_length_gray_counted(white, wx, wy, curve, gamma, intent, n, rounded);
+            },
+            curve == MERQYDUK_CURVE_GAMMA ? 4u : 8u};
 }
 
 struct Primaries {
@@ -62,12 +75,23 @@ Call rgb(uint32_t white, float wx, float wy, uint32_t primaries, Primaries p, ui
             [=](size_t n) {
                 return merqyduk_length_rgb(white, wx, wy, primaries, p.rx, p.ry, p.gx, p.gy, p.bx, p.by, curve, gamma,
                                            intent, n);
-            }};
+            },
+            [=](uint8_t *out, size_t n, uint32_t *rounded) {
+                return merqyduk_write_rgb_counted(white, wx, wy, primaries, p.rx, p.ry, p.gx, p.gy, p.bx, p.by, curve,
+                                                  gamma, intent, out, n, rounded);
+            },
+            [=](size_t n, uint32_t *rounded) {
+                return merqyduk_length_rgb_counted(white, wx, wy, primaries, p.rx, p.ry, p.gx, p.gy, p.bx, p.by, curve,
+                                                   gamma, intent, n, rounded);
+            },
+            curve == MERQYDUK_CURVE_GAMMA ? 22u : 26u};
 }
 
 Call xyb(uint32_t intent) {
     return {[=](uint8_t *out, size_t n) { return merqyduk_write_xyb(intent, out, n); },
-            [=](size_t n) { return merqyduk_length_xyb(intent, n); }};
+            [=](size_t n) { return merqyduk_length_xyb(intent, n); },
+            [=](uint8_t *out, size_t n, uint32_t *rounded) { return merqyduk_write_xyb_counted(intent, out, n, rounded); },
+            [=](size_t n, uint32_t *rounded) { return merqyduk_length_xyb_counted(intent, n, rounded); }, 45};
 }
 
 // An output of n bytes between two pages that may not be touched: it ends where the second begins, or starts where the first ends.
@@ -115,14 +139,51 @@ Call entry(const Bytes &job, size_t i) {
     return {[=, n = job.size()](uint8_t *out, size_t out_len) {
                 return merqyduk_job_profile(kept->data(), n, i, out, out_len);
             },
-            nullptr};
+            nullptr, nullptr, nullptr, 0};
+}
+
+// How many numbers of an accepted encoding were rounded, as it is told without an output.
+uint32_t rounded(const Call &call) {
+    uint32_t count = 0;
+    call.length_counted(SIZE_MAX, &count);
+    return count;
+}
+
+// A counted call answers as the other does. On a refusal the number that it is lent, another one each time, is unchanged; else it is the count,
+// which all calls for the same profile have in common. What stands beside it is not touched.
+void has_count(const std::string &name, uint32_t answer, const Call &call, const std::function<uint32_t(uint32_t *)> &counted) {
+    static uint32_t held = 1;
+    held = held * 1664525u + 1013904223u;
+    uint32_t lent[3] = {held, held, held};
+    expect(counted(&lent[1]) == answer, name + ", counted, answered " + std::to_string(answer));
+    expect(lent[0] == held && lent[2] == held, name + " leaves what is beside the count unchanged");
+    if (answer < MERQYDUK_MIN_PROFILE) {
+        expect(lent[1] == held, name + " refused leaves the count unchanged");
+    } else {
+        expect(lent[1] == rounded(call), name + " has the same count each time");
+        expect(lent[1] <= call.numbers, name + " has a count of at most " + std::to_string(call.numbers));
+    }
 }
 
 // The length that is told for such an output, or the refusal.
 void tells(const std::string &name, uint32_t answer, size_t capacity, const Call &call) {
-    if (call.length)
-        expect(call.length(capacity) == answer,
-               name + " told " + std::to_string(answer) + " at " + std::to_string(capacity));
+    if (!call.length) return;
+    expect(call.length(capacity) == answer, name + " told " + std::to_string(answer) + " at " + std::to_string(capacity));
+    has_count(name + " told", answer, call, [&](uint32_t *count) { return call.length_counted(capacity, count); });
+}
+
+// The counted call leaves in an output of n bytes of its own what the other call left in its one.
+void same_counted(const std::string &name, uint32_t answer, const Call &call, const uint8_t *left, size_t n, bool at_end) {
+    if (!call.write_counted) return;
+    Guarded out(n, at_end);
+    has_count(name, answer, call, [&](uint32_t *count) { return call.write_counted(out.data(), n, count); });
+    expect(std::equal(left, left + n, out.data()), name + ", counted, leaves the same output");
+}
+
+void with_no_output(const std::string &name, uint32_t number, const Call &call) {
+    expect(call(nullptr, 0) == number, name + " with no output");
+    if (call.write_counted)
+        has_count(name + " with no output", number, call, [&](uint32_t *count) { return call.write_counted(nullptr, 0, count); });
 }
 
 void refuses(const std::string &name, uint32_t number, const Call &call) {
@@ -130,19 +191,21 @@ void refuses(const std::string &name, uint32_t number, const Call &call) {
         Guarded out(n, true);
         expect(call(out.data(), n) == number, name + " refused " + std::to_string(number));
         expect(out.unchanged_from(0), name + " leaves the output unchanged");
+        same_counted(name, number, call, out.data(), n, true);
         tells(name, number, n, call);
     }
-    expect(call(nullptr, 0) == number, name + " with no output");
+    with_no_output(name, number, call);
     tells(name, number, SIZE_MAX, call);
 }
 
 // The profile, after every shorter output was refused with 9 and left unchanged.
 std::vector<uint8_t> writes(const std::string &name, uint32_t length, const Call &call) {
-    expect(call(nullptr, 0) == 9, name + " with no output");
+    with_no_output(name, 9, call);
     for (size_t n = 0; n < length; n++) {
         Guarded out(n, n % 2 == 0);
         expect(call(out.data(), n) == 9, name + " refused 9 at " + std::to_string(n));
         expect(out.unchanged_from(0), name + " leaves a short output unchanged");
+        same_counted(name, 9, call, out.data(), n, n % 2 == 0);
         tells(name, 9, n, call);
     }
     std::vector<uint8_t> first;
@@ -151,13 +214,14 @@ std::vector<uint8_t> writes(const std::string &name, uint32_t length, const Call
             Guarded out(n, at_end);
             expect(call(out.data(), n) == length, name + " has " + std::to_string(length));
             expect(out.unchanged_from(length), name + " leaves the rest unchanged");
+            same_counted(name, length, call, out.data(), n, at_end);
             std::vector<uint8_t> profile(out.data(), out.data() + length);
             if (first.empty()) first = profile;
             expect(first == profile, name + " is the same each time");
         }
         tells(name, length, n, call);
     }
-    tells(name, length, SIZE_MAX, call);
+    for (size_t n : {size_t(1) << 32, (size_t(1) << 32) + 5, SIZE_MAX}) tells(name, length, n, call);
     return first;
 }
 
@@ -874,6 +938,18 @@ void vast_lengths(const Bytes &f) {
     expect(std::equal(f.begin(), f.end(), lent) && lent[f.size()] == 0, "and its bytes");
 }
 
+// The profile of sRGB in such an output, written with a count and without.
+void vast_output(const Bytes &srgb, const Call &call) {
+    const size_t length = (size_t(1) << 32) + 5;
+    Vast vast;
+    uint8_t *lent = vast.cleared();
+    expect(call(lent, length) == srgb.size(), "sRGB in a vast output");
+    expect(std::equal(srgb.begin(), srgb.end(), lent) && lent[srgb.size()] == 0, "and its bytes");
+    lent = vast.cleared();
+    has_count("sRGB in a vast output", uint32_t(srgb.size()), call, [&](uint32_t *count) { return call.write_counted(lent, length, count); });
+    expect(std::equal(srgb.begin(), srgb.end(), lent) && lent[srgb.size()] == 0, "and its bytes, counted");
+}
+
 void segments(const Bytes &srgb, const Bytes &gray, const Bytes &xyb) {
     put_into_segments("sRGB", srgb);
     put_into_segments("gray", gray);
@@ -1099,6 +1175,10 @@ void parses(const std::string &text, const Encoding &expected) {
         expect(merqyduk_write(&e, from_struct.data(), n) == answer, name + " is written");
         expect(from_struct == direct, name + " has the profile of its numbers");
         expect(merqyduk_length(&e, n) == call.length(n), name + " tells its length");
+        std::fill(from_struct.begin(), from_struct.end(), 7);
+        has_count(name, answer, call, [&](uint32_t *count) { return merqyduk_write_counted(&e, from_struct.data(), n, count); });
+        expect(from_struct == direct, name + ", counted, has the profile of its numbers");
+        has_count(name + " told", answer, call, [&](uint32_t *count) { return merqyduk_length_counted(&e, n, count); });
     }
     expect(merqyduk_length(&e, SIZE_MAX) == length, name + " tells its length without a bound");
 }
@@ -1432,16 +1512,22 @@ void encoding_structs() {
             e = named(space, other, other, other, other);
             refuses("a struct of space " + std::to_string(space), 43,
                     {[=](uint8_t *out, size_t n) { return merqyduk_write(&e, out, n); },
-                     [=](size_t n) { return merqyduk_length(&e, n); }});
+                     [=](size_t n) { return merqyduk_length(&e, n); },
+                     [=](uint8_t *out, size_t n, uint32_t *count) { return merqyduk_write_counted(&e, out, n, count); },
+                     [=](size_t n, uint32_t *count) { return merqyduk_length_counted(&e, n, count); }, 0});
         }
     }
     // What a space does not use is not read.
+    const auto tells_length = [&](const std::string &name, uint32_t answer) {
+        expect(merqyduk_length(&e, 1200) == answer, name);
+        has_count(name, answer, call_of(e), [&](uint32_t *count) { return merqyduk_length_counted(&e, 1200, count); });
+    };
     e = named(MERQYDUK_SPACE_GRAY, 0, 9, 2, 1);
-    expect(merqyduk_length(&e, 1200) == 328, "gray with primaries that have no meaning");
+    tells_length("gray with primaries that have no meaning", 328);
     e = named(MERQYDUK_SPACE_XYB, 9, 9, 9, 0);
-    expect(merqyduk_length(&e, 1200) == 720, "XYB with a white that has no meaning");
+    tells_length("XYB with a white that has no meaning", 720);
     e = named(MERQYDUK_SPACE_RGB, 0, 9, 2, 1);
-    expect(merqyduk_length(&e, 1200) == 43, "RGB with primaries that have no meaning");
+    tells_length("RGB with primaries that have no meaning", 43);
 }
 
 void typed_texts() {
@@ -1453,6 +1539,303 @@ void typed_texts() {
     mixed_texts();
     no_descriptions();
     encoding_structs();
+}
+
+// ---- numbers that were rounded, by the floats that the Rust makes the fixed numbers from. Each operation is rounded once, in its order.
+
+using Floats = std::vector<float>;
+
+// Times 65536 is exact in double.
+bool whole(float value) { return std::fmod(double(value) * 65536, 1) == 0; }
+
+uint32_t not_whole(const Floats &floats) { return uint32_t(floats.size()) - uint32_t(std::count_if(floats.begin(), floats.end(), whole)); }
+
+// x and y of the white.
+Floats white_of(const Encoding &e) {
+    const Floats own = {e.wx, e.wy}, all[] = {{0.3127f, 0.3290f}, {1.0f / 3.0f, 1.0f / 3.0f}, {0.314f, 0.351f}, own};
+    return all[e.white];
+}
+
+// x and y of red, green and blue.
+Floats primaries_of(const Encoding &e) {
+    const Floats own = {e.rx, e.ry, e.gx, e.gy, e.bx, e.by};
+    const Floats all[] = {{0.6399987f, 0.33001015f, 0.3000038f, 0.60000336f, 0.15000205f, 0.059997204f},
+                          {0.708f, 0.292f, 0.170f, 0.797f, 0.131f, 0.046f},
+                          {0.680f, 0.320f, 0.265f, 0.690f, 0.150f, 0.060f},
+                          own};
+    return all[e.primaries];
+}
+
+Floats curve_floats(uint32_t curve, float gamma) {
+    switch (curve) {
+    case MERQYDUK_CURVE_BT709: return {1.0f / 0.45f, 1.0f / 1.099f, 0.099f / 1.099f, 1.0f / 4.5f, 0.081f};
+    case MERQYDUK_CURVE_LINEAR: return {1, 1, 0, 1, 0};
+    case MERQYDUK_CURVE_SRGB: return {2.4f, 1.0f / 1.055f, 0.055f / 1.055f, 1.0f / 12.92f, 0.04045f};
+    case MERQYDUK_CURVE_DCI: return {2.6f, 1, 0, 1, 0};
+    default: return {1.0f / gamma};
+    }
+}
+
+Floats gray_floats(const Encoding &e) {
+    const Floats white = white_of(e);
+    const float factor = 1.0f / white[1];
+    return {white[0] * factor, 1, (1.0f - white[0] - white[1]) * factor};
+}
+
+using Vector = std::array<double, 3>;
+using Matrix = std::array<Vector, 3>; // by rows
+
+double dot(const Vector &a, const Vector &b) { return a[0] * b[0] + a[1] * b[1] + a[2] * b[2]; }
+
+Vector applied(const Matrix &m, const Vector &v) { return {dot(m[0], v), dot(m[1], v), dot(m[2], v)}; }
+
+Matrix product(const Matrix &a, const Matrix &b) {
+    Matrix made;
+    for (size_t r = 0; r < 3; r++)
+        for (size_t c = 0; c < 3; c++) made[r][c] = dot(a[r], {b[0][c], b[1][c], b[2][c]});
+    return made;
+}
+
+// The cofactors the other way round, times the reciprocal of the determinant.
+Matrix inverse(const Matrix &m) {
+    Matrix cofactors, made;
+    for (size_t r = 0; r < 3; r++)
+        for (size_t c = 0; c < 3; c++) {
+            const size_t r0 = r == 0 ? 1 : 0, r1 = r == 2 ? 1 : 2, c0 = c == 0 ? 1 : 0, c1 = c == 2 ? 1 : 2;
+            const double difference = m[r0][c0] * m[r1][c1] - m[r0][c1] * m[r1][c0];
+            cofactors[r][c] = (r + c) % 2 == 0 ? difference : -difference;
+        }
+    const double reciprocal = 1 / dot(m[0], cofactors[0]);
+    for (size_t r = 0; r < 3; r++)
+        for (size_t c = 0; c < 3; c++) made[r][c] = cofactors[c][r] * reciprocal;
+    return made;
+}
+
+Vector white_xyz(const Floats &white) {
+    const double x = white[0], y = white[1];
+    return {x / y, 1, (1 - x - y) / y};
+}
+
+// The adaptation of a white to D50, which here is another than that of wtpt.
+Matrix adaptation(const Vector &white) {
+    const Matrix bradford = {Vector{0.8951, 0.2664, -0.1614}, Vector{-0.7502, 1.7135, 0.0367}, Vector{0.0389, -0.0685, 1.0296}};
+    const Matrix back = {Vector{0.9869929, -0.1470543, 0.1599627}, Vector{0.4323053, 0.5183603, 0.0492912},
+                         Vector{-0.0085287, 0.0400428, 0.9684867}};
+    const Vector from = applied(bradford, white), to = applied(bradford, {0.96422, 1, 0.82521});
+    Matrix scaled = bradford;
+    for (size_t r = 0; r < 3; r++)
+        for (double &entry : scaled[r]) entry *= to[r] / from[r];
+    return product(back, scaled);
+}
+
+// The matrix whose rows are the columns of the other.
+Matrix turned(const Matrix &m) {
+    Matrix made;
+    for (size_t r = 0; r < 3; r++)
+        for (size_t c = 0; c < 3; c++) made[r][c] = m[c][r];
+    return made;
+}
+
+// The red, the green and the blue column.
+Matrix columns_of(const Floats &xy, const Vector &white) {
+    Matrix primaries;
+    for (size_t c = 0; c < 3; c++) {
+        const double x = xy[2 * c], y = xy[2 * c + 1];
+        primaries[0][c] = x;
+        primaries[1][c] = y;
+        primaries[2][c] = 1 - x - y;
+    }
+    const Vector scales = applied(inverse(primaries), white);
+    for (Vector &row : primaries)
+        for (size_t c = 0; c < 3; c++) row[c] *= scales[c];
+    return turned(product(adaptation(white), primaries));
+}
+
+void narrow(const Matrix &m, Floats &floats) {
+    for (const Vector &row : m)
+        for (double entry : row) floats.push_back(float(entry));
+}
+
+const Floats d50 = {0.964203f, 1, 0.824905f};
+
+Floats rgb_floats(const Encoding &e) {
+    const Vector white = white_xyz(white_of(e));
+    Floats floats = d50;
+    narrow(adaptation(white), floats);
+    narrow(columns_of(primaries_of(e), white), floats);
+    return floats;
+}
+
+// wtpt; chad of D65; of A2B0 three curves with the gamma 1, the M curves, the matrix and its intercepts; of B2A0 three curves with the gamma 1.
+Floats xyb_floats() {
+    const float offset[] = {0.015386134f, 0, 0.27770459f}, scale[] = {22.995788804f, 1.183000077f, 1.502141333f};
+    const float offsets[] = {offset[0] + offset[1], offset[1] - offset[0] + 1.0f / scale[0], offset[1] + offset[2]};
+    const float first = scale[0] * scale[1] / (scale[0] + scale[1]), last = scale[1] * scale[2] / (scale[1] + scale[2]);
+    const float scales[] = {first, first, last}, bias = 0.0037930732552754493f, root = float(std::cbrt(double(bias)));
+    const Matrix matrix = {Vector{1.5170095, -1.1065225, 0.071623}, Vector{-0.050022, 0.5683655, -0.018344},
+                           Vector{-1.387676, 1.1145555, 0.6857255}};
+    Floats floats = d50;
+    narrow(adaptation(white_xyz(white_of(named(MERQYDUK_SPACE_XYB, MERQYDUK_WHITE_D65, 0, 0, 0)))), floats);
+    floats.insert(floats.end(), 3, 1);
+    for (size_t i = 0; i < 3; i++) {
+        const float b = -offsets[i] + root;
+        floats.insert(floats.end(), {3, 1.0f / scales[i], b, 0, std::max(-b * scales[i], 0.0f)});
+    }
+    narrow(matrix, floats);
+    for (const Vector &row : matrix) floats.push_back(float(dot(row, {-double(bias), -double(bias), -double(bias)})));
+    floats.insert(floats.end(), 3, 1);
+    return floats;
+}
+
+Floats floats_of(const Encoding &e) {
+    if (e.space == MERQYDUK_SPACE_XYB) return xyb_floats();
+    Floats floats = e.space == MERQYDUK_SPACE_GRAY ? gray_floats(e) : rgb_floats(e);
+    for (float value : curve_floats(e.curve, e.gamma)) floats.push_back(value);
+    return floats;
+}
+
+// The fixed numbers of a profile in the order of the file, a curve of three colors once.
+std::vector<int32_t> fixed_numbers(const Bytes &f) {
+    std::vector<int32_t> numbers;
+    const auto add = [&](const char *signature, size_t at, size_t count) {
+        const Bytes e = element(f, signature);
+        for (size_t i = 0; i < count && at + 4 * i < e.size(); i++) numbers.push_back(int32_t(word(e, at + 4 * i)));
+    };
+    for (const char *signature : {"wtpt", "chad", "rXYZ", "gXYZ", "bXYZ"}) add(signature, 8, 9);
+    for (const char *signature : {"rTRC", "kTRC"}) add(signature, 12, 5);
+    for (const char *signature : {"A2B0", "B2A0"}) {
+        for (size_t at : {32, 48, 64}) add(signature, at + 12, 1);
+        for (size_t at : {148, 180, 212}) add(signature, at + 12, 5);
+        add(signature, 244, 12);
+    }
+    return numbers;
+}
+
+// Whether the counted calls answer and write what the others do, and tell how many of the floats are not whole; these floats have the fixed numbers
+// of the profile. Those that are accepted are counted in `seen`.
+bool counted_right(const Encoding &e, std::map<uint32_t, int> &seen) {
+    Bytes plain(1200, 7), counted = plain;
+    uint32_t written = 77, told = 77;
+    const uint32_t answer = merqyduk_write(&e, plain.data(), plain.size());
+    if (merqyduk_length(&e, plain.size()) != answer || merqyduk_length_counted(&e, plain.size(), &told) != answer ||
+        merqyduk_write_counted(&e, counted.data(), counted.size(), &written) != answer || counted != plain || written != told)
+        return false;
+    if (answer < MERQYDUK_MIN_PROFILE) return told == 77;
+    const Floats floats = floats_of(e);
+    std::vector<int32_t> fixed;
+    for (float value : floats) fixed.push_back(int32_t(std::lround(double(value) * 65536)));
+    seen[told]++;
+    plain.resize(answer);
+    return told == not_whole(floats) && floats.size() == call_of(e).numbers && fixed == fixed_numbers(plain);
+}
+
+void known_gray_counts() {
+    const float tiny = std::numeric_limits<float>::denorm_min(), endless = std::numeric_limits<float>::infinity();
+    const float least = 1.0f / 65536, most = 32767.994140625f;
+    const struct {
+        float wx, wy;
+        uint32_t curve;
+        float gamma;
+        uint32_t count;
+    } all[] = {{0.25f, 0.5f, 6, 0.5f, 0},      {0.25f, 0.5f, 6, 2, 0},       {0.25f, 0.5f, 6, 1, 0},      {0.25f, 0.5f, 6, -2, 0},
+               {0.25f, 0.5f, 6, 3, 1},         {0.25f, 0.5f, 6, 0.45f, 1},   {0.25f, 0.5f, 1, 0, 0},      {0.25f, 0.5f, 4, 0, 1},
+               {0.25f, 0.5f, 2, 0, 5},         {0.25f, 0.5f, 0, 0, 5},       {0.3127f, 0.3290f, 2, 0, 7}, {0.3127f, 0.3290f, 1, 0, 2},
+               // both zeros are whole
+               {0, 0.5f, 6, 2, 0},             {-0.0f, 0.5f, 6, 2, 0},       {0, 0.5f, 6, endless, 0},    {0, 0.5f, 6, -endless, 0},
+               // what is rounded to 0 is not
+               {1e-9f, 0.5f, 6, 2, 1},         {-1e-9f, 0.5f, 6, 2, 1},      {tiny, 0.5f, 6, 2, 1},       {-tiny, 0.5f, 6, 2, 1},
+               {0, 0.5f, 6, 1e9f, 1},          {0, 0.5f, 6, -1e9f, 1},       {0, 0.5f, 6, 3e38f, 1},      {1e-9f, 0.5f, 6, 1e9f, 2},
+               // the least number that is whole, and halves and quarters of it; Z is 1 - X
+               {least / 2, 0.5f, 6, 65536, 0}, {least / 4, 0.5f, 6, 2, 2},   {least / 8, 0.5f, 6, 2, 2},  {0, 0.5f, 6, 131072, 1},
+               {-least / 2, 0.5f, 6, 2, 0},    {-least / 4, 0.5f, 6, 2, 2},  {0, 0.5f, 6, 262144, 1},     {0, 0.5f, 6, -131072, 1},
+               // large numbers; a float of 128 or more is always whole
+               {most / 2, 0.5f, 6, 2, 0},      {-16000, 0.5f, 6, 2, 0},      {0, 0.5f, 6, 1.0f / 16384, 0}, {100.1f, 0.5f, 6, 0.0070f, 0}};
+    for (const auto &one : all) {
+        const Call call = gray(3, one.wx, one.wy, one.curve, one.gamma, 1);
+        const std::string name = "gray of " + std::to_string(one.wx) + " " + std::to_string(one.wy) + " " + std::to_string(one.curve) + " " +
+                                 std::to_string(one.gamma);
+        uint8_t out[1200];
+        expect(call(out, sizeof out) >= MERQYDUK_MIN_PROFILE, name + " is written");
+        expect(rounded(call) == one.count, name + ": " + std::to_string(rounded(call)) + " rounded for " + std::to_string(one.count));
+        tells(name, call(out, sizeof out), sizeof out, call);
+    }
+    // What is rounded to 0 is 0 in the profile.
+    Bytes profile(1200);
+    profile.resize(gray(3, tiny, 0.5f, 6, 1e9f, 1)(profile.data(), profile.size()));
+    expect(word(element(profile, "wtpt"), 8) == 0 && word(element(profile, "kTRC"), 12) == 0, "numbers that are rounded to 0");
+}
+
+// Another curve changes the count by its own numbers, once for the three colors, and another intent changes nothing.
+void other_curves(uint32_t white, uint32_t primaries, Primaries own) {
+    const auto count = [&](uint32_t curve, float gamma, uint32_t intent) {
+        return rounded(rgb(white, 0.3457f, 0.3585f, primaries, own, curve, gamma, intent));
+    };
+    const uint32_t others = count(MERQYDUK_CURVE_LINEAR, 0, 0);
+    for (uint32_t intent = 0; intent < 4; intent++) {
+        for (uint32_t curve : {0u, 1u, 2u, 4u})
+            expect(count(curve, 0, intent) == others + not_whole(curve_floats(curve, 0)), "the count of another curve");
+        for (float gamma : {0.45f, 0.5f, 2.0f, 3.0f})
+            expect(count(MERQYDUK_CURVE_GAMMA, gamma, intent) == others + (whole(1 / gamma) ? 0 : 1), "the count of another gamma");
+    }
+    expect(count(2, 0, 1) == others + 5 && count(0, 0, 1) == others + 5 && count(4, 0, 1) == others + 1, "the counts of curves");
+}
+
+void named_counts() {
+    std::map<uint32_t, int> seen;
+    for (uint32_t curve = 0; curve < 7; curve++)
+        for (uint32_t intent = 0; intent < 4; intent++) {
+            for (uint32_t white = 0; white < 3; white++) {
+                Encoding e = named(MERQYDUK_SPACE_GRAY, white, 0, curve, intent);
+                e.gamma = 0.45f;
+                expect(counted_right(e, seen), "the count of a named gray white");
+                for (e.space = MERQYDUK_SPACE_RGB; e.primaries < 3; e.primaries++) expect(counted_right(e, seen), "the count of named primaries");
+            }
+            expect(counted_right(named(MERQYDUK_SPACE_XYB, 0, 0, curve, intent), seen), "the count of XYB");
+        }
+    expect(rounded(rgb(0, 0, 0, 0, {}, 2, 0, 0)) == 24, "24 numbers of sRGB were rounded");
+    expect(rounded(gray(0, 0, 0, 2, 0, 1)) == 7, "7 numbers of gray were rounded");
+    expect(rounded(xyb(0)) == 30, "30 numbers of XYB were rounded");
+    for (uint32_t white = 0; white < 4; white++)
+        for (uint32_t primaries = 0; primaries < 4; primaries++) other_curves(white, primaries, {0.69f, 0.31f, 0.21f, 0.71f, 0.14f, 0.05f});
+}
+
+// Encodings by chance: coordinates and gammas in range, of few digits, so that some are whole, near zero, so that others become large, and any.
+void counts_by_chance(uint32_t space, const std::vector<uint32_t> &counts) {
+    uint64_t state = space;
+    const auto below = [&](size_t n) {
+        state = state * 6364136223846793005u + 1442695040888963407u;
+        return uint32_t((state >> 32) % n);
+    };
+    const auto number = [&] {
+        const float in_range = float(below(1 << 24)) / (1 << 24);
+        switch (below(8)) {
+        case 0: return float(below(257)) / 256;
+        case 1: return std::ldexp(1.0f, 4 - int(below(24)));
+        case 2: return std::ldexp(in_range, -int(below(20)));
+        case 3: return float_of(below(size_t(1) << 32));
+        default: return in_range;
+        }
+    };
+    std::map<uint32_t, int> seen;
+    bool all_right = true;
+    for (int n = 0; n < 200000; n++) {
+        Encoding e = named(space, MERQYDUK_WHITE_OWN, MERQYDUK_PRIMARIES_OWN, MERQYDUK_CURVE_GAMMA, uint32_t(n) % 4);
+        if (below(8) == 0) e.white = below(3);
+        if (below(2) == 0) e.primaries = below(3);
+        if (below(2) == 0) e.curve = below(6);
+        for (float Encoding::*member : float_members()) e.*member = number();
+        all_right = counted_right(e, seen) && all_right;
+    }
+    expect(all_right, "counts by chance in space " + std::to_string(space));
+    for (uint32_t count : counts)
+        expect(seen[count] > 20, "encodings by chance of space " + std::to_string(space) + " with the count " + std::to_string(count));
+}
+
+void numbers_that_were_rounded() {
+    known_gray_counts();
+    named_counts();
+    counts_by_chance(MERQYDUK_SPACE_GRAY, {0, 1, 2, 3, 5, 6, 7});
+    counts_by_chance(MERQYDUK_SPACE_RGB, {11, 12, 13, 14, 15, 16, 17, 18, 19, 20, 21, 22, 23, 24, 25});
 }
 
 void save(const std::string &folder, const std::string &name, const std::vector<uint8_t> &profile) {
@@ -1530,6 +1913,8 @@ int main(int argc, char **argv) {
     good_jobs(srgb);
     bad_jobs();
     typed_texts();
+    vast_output(srgb, rgb(0, 0, 0, 0, none, 2, 0, 0));
+    numbers_that_were_rounded();
 
     std::printf("%d of %d\n", tried - failed, tried);
     return failed == 0 ? 0 : 1;

@@ -101,6 +101,7 @@ if command -v pkg-config >/dev/null; then
         (cd "$folder" && ./profiles >said) || fail "example/profiles.$language failed; $folder/said has what it said"
         cmp "$folder/srgb.icc" "$out/srgb.icc" || fail "example/profiles.$language writes another sRGB than the test"
         [ "$(grep -c ': refused 1, the curve is PQ or HLG$' "$folder/said")" -eq 1 ] || fail "example/profiles.$language shows no refusal"
+        grep -q '^own.icc: 21 of its numbers were rounded$' "$folder/said" || fail "example/profiles.$language shows no count, or another"
     done
     cmp "$out/example-c/said" "$out/example-cpp/said" && cmp "$out/example-c/own.icc" "$out/example-cpp/own.icc" ||
         fail "the examples in C and in C++ differ"

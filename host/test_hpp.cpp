@@ -21,8 +21,13 @@ void expect(bool ok, const std::string &what) {
     }
 }
 
-// Every way to write the encoding answers and writes what the C call did: its answer, and the front of its output.
-void same(const std::string &name, const Encoding &encoding, std::uint32_t answer, const std::uint8_t *bytes) {
+// What a count holds before a call: more than any profile has numbers.
+const std::uint32_t held = 77;
+
+// Every way to write the encoding answers and writes what the C call did: its answer, the front of its output, and the count, which is `held` where
+// the encoding is refused.
+void same(const std::string &name, const Encoding &encoding, std::uint32_t answer, const std::uint8_t *bytes,
+          std::uint32_t rounded) {
     const std::size_t length = answer < MERQYDUK_MIN_PROFILE ? 0 : answer;
     const auto holds = [&](const Answer &a, const std::uint8_t *at) {
         return bool(a) == (length > 0) && a.length() == length && a.refusal() == (length > 0 ? 0 : answer) &&
@@ -32,14 +37,23 @@ void same(const std::string &name, const Encoding &encoding, std::uint32_t answe
     expect(holds(merqyduk::length(encoding, MERQYDUK_MAX_PROFILE), bytes), name + ": its length before, in 1,200 bytes");
     std::uint8_t lent[MERQYDUK_MAX_PROFILE];
     expect(holds(write(encoding, lent, sizeof lent), lent), name + " into a lent output");
+    std::uint32_t count = held;
+    expect(holds(merqyduk::length(encoding, SIZE_MAX, count), bytes) && count == rounded, name + ": its count before");
+    count = held;
+    std::memset(lent, 0, sizeof lent);
+    expect(holds(write(encoding, lent, sizeof lent, count), lent) && count == rounded, name + " with its count");
+    count = held;
+    expect(!write(encoding, lent, 100, count) && !merqyduk::length(encoding, 100, count) && count == held,
+           name + ": no count in 100 bytes");
     std::array<std::uint8_t, MERQYDUK_MAX_PROFILE> array;
     expect(holds(write(encoding, array), array.data()), name + " into an array");
     std::vector<std::uint8_t> vector(3, 7);
     const Answer into_vector = write(encoding, vector);
     expect(holds(into_vector, vector.data()), name + " into a vector");
     expect(length > 0 ? vector.size() == length : vector == std::vector<std::uint8_t>(3, 7), name + ": the vector");
-    const Profile profile = write(encoding);
+    const CountedProfile profile = write(encoding);
     expect(bool(profile) == (length > 0) && holds(profile.answer(), profile.data()), name + " by value");
+    expect(profile.rounded() == (length > 0 ? rounded : 0), name + ": its count by value");
     expect(profile.size() == length && std::size_t(profile.end() - profile.begin()) == length, name + ": its length");
     const Id zeros{};
     expect(length > 0 ? std::memcmp(profile.id().data(), bytes + 84, 16) == 0 : profile.id() == zeros, name + ": its id");
@@ -59,23 +73,35 @@ void encodings() {
             for (std::uint32_t i = 0; i < 4; i++) {
                 const Intent intent = static_cast<Intent>(i);
                 const std::string name = std::to_string(w) + " " + std::to_string(c) + " " + std::to_string(i);
-                std::uint32_t answer = merqyduk_write_gray(w, 0.3457f, 0.3585f, c, 0.45f, i, out, sizeof out);
-                same("gray " + name, Encoding::gray(whites[w], curves[c], intent), answer, out);
+                std::uint32_t count = held;
+                std::uint32_t answer =
+                    merqyduk_write_gray_counted(w, 0.3457f, 0.3585f, c, 0.45f, i, out, sizeof out, &count);
+                same("gray " + name, Encoding::gray(whites[w], curves[c], intent), answer, out, count);
                 for (std::uint32_t p = 0; p < 4; p++) {
-                    answer = merqyduk_write_rgb(w, 0.3457f, 0.3585f, p, 0.64f, 0.33f, 0.21f, 0.71f, 0.15f, 0.06f, c,
-                                                0.45f, i, out, sizeof out);
+                    count = held;
+                    answer = merqyduk_write_rgb_counted(w, 0.3457f, 0.3585f, p, 0.64f, 0.33f, 0.21f, 0.71f, 0.15f,
+                                                        0.06f, c, 0.45f, i, out, sizeof out, &count);
                     same("RGB " + std::to_string(p) + " " + name,
-                         Encoding::rgb(whites[w], primaries[p], curves[c], intent), answer, out);
+                         Encoding::rgb(whites[w], primaries[p], curves[c], intent), answer, out, count);
                 }
             }
         }
     }
-    for (std::uint32_t i = 0; i < 5; i++)
-        same("XYB " + std::to_string(i), Encoding::xyb(static_cast<Intent>(i)), merqyduk_write_xyb(i, out, sizeof out),
-             out);
+    for (std::uint32_t i = 0; i < 5; i++) {
+        std::uint32_t count = held;
+        const std::uint32_t answer = merqyduk_write_xyb_counted(i, out, sizeof out, &count);
+        same("XYB " + std::to_string(i), Encoding::xyb(static_cast<Intent>(i)), answer, out, count);
+    }
+    // A kind that is none is refused, the one in front of the first too.
+    for (int kind : {-1, 3, 255}) {
+        Encoding none = Encoding::srgb();
+        none.kind = static_cast<Encoding::Kind>(kind);
+        same("kind " + std::to_string(kind), none, MERQYDUK_REFUSED_MEANING, out, held);
+    }
     expect(write(Encoding::srgb()).size() == 504, "sRGB");
     expect(write(Encoding::srgb(Intent::relative)).size() == 536, "sRGB Relative");
     expect(write(Encoding::xyb()).size() == 720, "XYB");
+    expect(write(Encoding::srgb()).rounded() == 24 && write(Encoding::xyb()).rounded() == 30, "the counts of sRGB and XYB");
     merqyduk_write_rgb(0, 0, 0, 2, 0, 0, 0, 0, 0, 0, 2, 0, 0, out, sizeof out);
     expect(std::memcmp(write(Encoding::display_p3()).data(), out, 500) == 0, "Display P3");
     // The curve of a display gamma of 2.2 is the fixed number of 2.2: the last element, 12 bytes from its start on.

@@ -19,17 +19,17 @@
  * For a display gamma of 2.2 pass 1/2.2f, which is about 0.45455.
  *
  * Pointers. A pointer to bytes may be null where their number is 0. What a call writes to may not overlap what
- * it reads.
+ * it reads, nor what else it writes to.
  *
  * Threads. Calls are reentrant: the library has no data that is written, no heap, no lock and no system call,
  * and calls nothing but memcpy and memset. Any number of threads may call at once, each with an output of its
  * own.
  *
  * Stack. A call takes at most MERQYDUK_STACK bytes. Measured by host/stack.c, with arguments and memcpy:
- * merqyduk_write_gray 1,720, merqyduk_write_rgb 1,904, merqyduk_write_xyb 1,720, merqyduk_length_gray 928,
- * merqyduk_length_rgb 1,136, merqyduk_length_xyb 928, merqyduk_job 296, merqyduk_job_profile 2,032,
- * merqyduk_read 3,720, merqyduk_find 3,784, merqyduk_parse_description 712, merqyduk_write_segments 3,784,
- * merqyduk_join_segments 6,200. Not counted is the dynamic linker, which takes about 2,600 more where a program's
+ * merqyduk_write_gray 1,720, merqyduk_write_rgb 1,840, merqyduk_write_xyb 1,720, merqyduk_length_gray 912,
+ * merqyduk_length_rgb 1,072, merqyduk_length_xyb 912, the same with _counted 1,736, 1,840, 1,736, 928, 1,088 and 928,
+ * merqyduk_job 296, merqyduk_job_profile 1,968, merqyduk_read 3,720, merqyduk_find 3,784,
+ * merqyduk_parse_description 712, merqyduk_write_segments 3,784, merqyduk_join_segments 6,200. Not counted is the dynamic linker, which takes about 2,600 more where a program's
  * first memcpy is looked up in the call; -Wl,-z,now has it looked up before.
  *
  * Platform: Linux on any x86-64 processor. The calls go by the floating-point environment that a program
@@ -43,9 +43,9 @@
 #include <string.h>
 
 #define MERQYDUK_VERSION_MAJOR 0
-#define MERQYDUK_VERSION_MINOR 12
+#define MERQYDUK_VERSION_MINOR 13
 #define MERQYDUK_VERSION_PATCH 0
-#define MERQYDUK_VERSION_STRING "0.12.0"
+#define MERQYDUK_VERSION_STRING "0.13.0"
 
 /* The lengths of the profiles that are written, in bytes. */
 #define MERQYDUK_MIN_PROFILE 284
@@ -232,6 +232,33 @@ uint32_t merqyduk_length_rgb(uint32_t white, float wx, float wy, uint32_t primar
 
 uint32_t merqyduk_length_xyb(uint32_t intent, size_t capacity);
 
+/* How many of the profile's numbers were rounded. Each of these calls answers what the one above without _counted in its
+ * name answers, and leaves the same output. Where the answer is a length, *rounded becomes how many fixed numbers of the
+ * profile were made from a float that is no whole number of 65536ths. Both zeros are whole; a float that is rounded to 0 is
+ * not. Looked at are, constants of the library included,
+ *    RGB   26 numbers: 3 of wtpt, 9 of chad, 9 of the columns, 5 of the curve, which stands once for all colors;
+ *          22 with a gamma, whose curve has 1
+ *    gray  8 numbers: 3 of wtpt, 5 of the curve; 4 with a gamma
+ *    XYB   45 numbers: 3 of wtpt, 9 of chad, 30 of A2B0, 3 of B2A0
+ * and not the white in the header. On every refusal *rounded is unchanged; the pointer must be valid even then. */
+uint32_t merqyduk_write_gray_counted(uint32_t white, float wx, float wy, uint32_t curve, float gamma, uint32_t intent,
+                                     uint8_t *out, size_t out_len, uint32_t *rounded);
+
+uint32_t merqyduk_write_rgb_counted(uint32_t white, float wx, float wy, uint32_t primaries, float rx, float ry,
+                                    float gx, float gy, float bx, float by, uint32_t curve, float gamma,
+                                    uint32_t intent, uint8_t *out, size_t out_len, uint32_t *rounded);
+
+uint32_t merqyduk_write_xyb_counted(uint32_t intent, uint8_t *out, size_t out_len, uint32_t *rounded);
+
+uint32_t merqyduk_length_gray_counted(uint32_t white, float wx, float wy, uint32_t curve, float gamma, uint32_t intent,
+                                      size_t capacity, uint32_t *rounded);
+
+uint32_t merqyduk_length_rgb_counted(uint32_t white, float wx, float wy, uint32_t primaries, float rx, float ry,
+                                     float gx, float gy, float bx, float by, uint32_t curve, float gamma,
+                                     uint32_t intent, size_t capacity, uint32_t *rounded);
+
+uint32_t merqyduk_length_xyb_counted(uint32_t intent, size_t capacity, uint32_t *rounded);
+
 /* ---- an encoding as one value */
 
 /* An encoding. A member that a space does not use is not read, and is 0 where a call fills the struct. */
@@ -271,6 +298,36 @@ static inline uint32_t merqyduk_length(const struct merqyduk_encoding *e, size_t
                                    e->curve, e->gamma, e->intent, capacity);
     case MERQYDUK_SPACE_XYB:
         return merqyduk_length_xyb(e->intent, capacity);
+    default:
+        return MERQYDUK_REFUSED_MEANING;
+    }
+}
+
+/* The same by the calls that count. */
+static inline uint32_t merqyduk_write_counted(const struct merqyduk_encoding *e, uint8_t *out, size_t out_len,
+                                              uint32_t *rounded) {
+    switch (e->space) {
+    case MERQYDUK_SPACE_GRAY:
+        return merqyduk_write_gray_counted(e->white, e->wx, e->wy, e->curve, e->gamma, e->intent, out, out_len, rounded);
+    case MERQYDUK_SPACE_RGB:
+        return merqyduk_write_rgb_counted(e->white, e->wx, e->wy, e->primaries, e->rx, e->ry, e->gx, e->gy, e->bx,
+                                          e->by, e->curve, e->gamma, e->intent, out, out_len, rounded);
+    case MERQYDUK_SPACE_XYB:
+        return merqyduk_write_xyb_counted(e->intent, out, out_len, rounded);
+    default:
+        return MERQYDUK_REFUSED_MEANING;
+    }
+}
+
+static inline uint32_t merqyduk_length_counted(const struct merqyduk_encoding *e, size_t capacity, uint32_t *rounded) {
+    switch (e->space) {
+    case MERQYDUK_SPACE_GRAY:
+        return merqyduk_length_gray_counted(e->white, e->wx, e->wy, e->curve, e->gamma, e->intent, capacity, rounded);
+    case MERQYDUK_SPACE_RGB:
+        return merqyduk_length_rgb_counted(e->white, e->wx, e->wy, e->primaries, e->rx, e->ry, e->gx, e->gy, e->bx,
+                                           e->by, e->curve, e->gamma, e->intent, capacity, rounded);
+    case MERQYDUK_SPACE_XYB:
+        return merqyduk_length_xyb_counted(e->intent, capacity, rounded);
     default:
         return MERQYDUK_REFUSED_MEANING;
     }

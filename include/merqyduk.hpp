@@ -1,5 +1,6 @@
 // Merqyduk for C++11 and later: the calls of merqyduk.h with an encoding as one value. Header only; it throws nothing of
-// its own (a std::vector may run out of memory). merqyduk.h says what the answers, the id and a gamma mean.
+// its own (a std::vector may run out of memory). merqyduk.h says what the answers, the id, a gamma and the count of rounded
+// numbers mean.
 //
 //    auto profile = merqyduk::write(merqyduk::Encoding::srgb());
 //    if (profile) save(profile.data(), profile.size());
@@ -151,42 +152,51 @@ class Profile {
     std::array<std::uint8_t, MERQYDUK_MAX_PROFILE> bytes_;
 };
 
+// The profile of an encoding also tells how many of its fixed numbers were rounded; 0 where the encoding is refused. A job's
+// calls tell no such count.
+class CountedProfile : public Profile {
+  public:
+    CountedProfile(const Profile &profile, std::uint32_t rounded) noexcept : Profile(profile), rounded_(rounded) {}
+
+    std::uint32_t rounded() const noexcept { return rounded_; }
+
+  private:
+    std::uint32_t rounded_;
+};
+
 // ---- writing
 
+// The encoding as merqyduk.h has it.
+inline merqyduk_encoding in_c(const Encoding &e) noexcept {
+    const Primaries &p = e.primaries;
+    // The kinds stand in the order of MERQYDUK_SPACE_..., from 0 on.
+    return {static_cast<std::uint32_t>(e.kind) + MERQYDUK_SPACE_GRAY, e.white.kind, e.white.x, e.white.y,
+            p.kind, p.rx, p.ry, p.gx, p.gy, p.bx, p.by, e.curve.kind, e.curve.gamma,
+            static_cast<std::uint32_t>(e.intent)};
+}
+
 // Into an output that the caller lends.
-inline Answer write(const Encoding &e, std::uint8_t *out, std::size_t out_len) noexcept {
-    const std::uint32_t intent = static_cast<std::uint32_t>(e.intent);
-    switch (e.kind) {
-    case Encoding::Kind::gray:
-        return Answer(merqyduk_write_gray(e.white.kind, e.white.x, e.white.y, e.curve.kind, e.curve.gamma, intent, out,
-                                          out_len));
-    case Encoding::Kind::rgb: {
-        const Primaries &p = e.primaries;
-        return Answer(merqyduk_write_rgb(e.white.kind, e.white.x, e.white.y, p.kind, p.rx, p.ry, p.gx, p.gy, p.bx,
-                                         p.by, e.curve.kind, e.curve.gamma, intent, out, out_len));
-    }
-    case Encoding::Kind::xyb:
-        return Answer(merqyduk_write_xyb(intent, out, out_len));
-    }
-    return Answer(MERQYDUK_REFUSED_MEANING);
+inline Answer write(const Encoding &encoding, std::uint8_t *out, std::size_t out_len) noexcept {
+    const merqyduk_encoding e = in_c(encoding);
+    return Answer(merqyduk_write(&e, out, out_len));
 }
 
 // What write would answer on an output of so many bytes, without an output: a profile's length before there is memory for it.
-inline Answer length(const Encoding &e, std::size_t capacity = SIZE_MAX) noexcept {
-    const std::uint32_t intent = static_cast<std::uint32_t>(e.intent);
-    switch (e.kind) {
-    case Encoding::Kind::gray:
-        return Answer(merqyduk_length_gray(e.white.kind, e.white.x, e.white.y, e.curve.kind, e.curve.gamma, intent,
-                                           capacity));
-    case Encoding::Kind::rgb: {
-        const Primaries &p = e.primaries;
-        return Answer(merqyduk_length_rgb(e.white.kind, e.white.x, e.white.y, p.kind, p.rx, p.ry, p.gx, p.gy, p.bx,
-                                          p.by, e.curve.kind, e.curve.gamma, intent, capacity));
-    }
-    case Encoding::Kind::xyb:
-        return Answer(merqyduk_length_xyb(intent, capacity));
-    }
-    return Answer(MERQYDUK_REFUSED_MEANING);
+inline Answer length(const Encoding &encoding, std::size_t capacity = SIZE_MAX) noexcept {
+    const merqyduk_encoding e = in_c(encoding);
+    return Answer(merqyduk_length(&e, capacity));
+}
+
+// Both with a count: rounded becomes how many fixed numbers of the profile were rounded, and is unchanged where the encoding is
+// refused.
+inline Answer write(const Encoding &encoding, std::uint8_t *out, std::size_t out_len, std::uint32_t &rounded) noexcept {
+    const merqyduk_encoding e = in_c(encoding);
+    return Answer(merqyduk_write_counted(&e, out, out_len, &rounded));
+}
+
+inline Answer length(const Encoding &encoding, std::size_t capacity, std::uint32_t &rounded) noexcept {
+    const merqyduk_encoding e = in_c(encoding);
+    return Answer(merqyduk_length_counted(&e, capacity, &rounded));
 }
 
 template <std::size_t N>
@@ -194,14 +204,17 @@ Answer write(const Encoding &encoding, std::array<std::uint8_t, N> &out) noexcep
     return write(encoding, out.data(), N);
 }
 
-// By value.
-inline Profile write(const Encoding &encoding) noexcept {
-    return Profile::from([&](std::uint8_t *out, std::size_t out_len) { return write(encoding, out, out_len); });
+// By value, with the count.
+inline CountedProfile write(const Encoding &encoding) noexcept {
+    std::uint32_t rounded = 0;
+    const Profile profile = Profile::from(
+        [&](std::uint8_t *out, std::size_t out_len) { return write(encoding, out, out_len, rounded); });
+    return CountedProfile(profile, rounded);
 }
 
 // The vector becomes the profile; it is unchanged where the encoding is refused.
 inline Answer write(const Encoding &encoding, std::vector<std::uint8_t> &out) {
-    const Profile profile = write(encoding);
+    const CountedProfile profile = write(encoding);
     if (profile) out.assign(profile.begin(), profile.end());
     return profile.answer();
 }

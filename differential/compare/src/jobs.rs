@@ -7,8 +7,8 @@ use judge::inputs::jobs::Source;
 use judge::inputs::{Random, encodings, job_cases};
 use judge::jobs::{self, Answer};
 use judge::list::hex;
+use judge::progress::Progress;
 
-use crate::progress::Progress;
 use crate::{Run, Written, port};
 
 /// From this many jobs on, each answer must have occurred.

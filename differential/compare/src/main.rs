@@ -8,7 +8,6 @@
 mod jobs;
 mod lent;
 mod port;
-mod progress;
 mod reader;
 mod segments;
 mod typed;
@@ -19,8 +18,8 @@ use std::process::ExitCode;
 
 use judge::encoding::Encoding;
 use judge::inputs::{Random, encodings, floats, pieces};
+use judge::progress::Progress;
 use judge::{answer, bench, leaves};
-use progress::Progress;
 
 const USAGE: &str = "\
 compare leaves|validate|writer|jobs|reader|typed|segments COUNT [SEED]
@@ -89,12 +88,12 @@ fn leaves(run: &mut Run) {
 }
 
 fn numbers_and_text(run: &mut Run) {
-    run.leaf(
-        "fixed number",
-        floats::fixed,
-        |x| leaves::fixed(*x),
-        |x| port::fixed(*x),
-    );
+    // The number, and 1 where it is exact.
+    let fixed = |x: &u32| leaves::fixed(*x).map(|n| (n, u32::from(leaves::is_whole(*x))));
+    let by_port = |x: &u32| port::fixed(*x);
+    run.leaf("fixed number", floats::fixed, fixed, by_port);
+    let inputs = floats::few_digits;
+    run.leaf("fixed number, few digits", inputs, fixed, by_port);
     run.leaf(
         "narrowing",
         floats::narrow,

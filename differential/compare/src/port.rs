@@ -149,7 +149,7 @@ mod entries {
             out: *mut u8,
             len: usize,
         ) -> usize;
-        pub fn leaf_fixed(x: u32) -> u64;
+        pub fn leaf_fixed(x: u32, mark: *mut u32) -> u64;
         pub fn leaf_narrow(x: f64) -> u32;
         pub fn leaf_text(x: u32, out: *mut u8, len: usize) -> usize;
         pub fn leaf_md5(data: *const u8, data_len: usize, out: *mut u8, len: usize) -> usize;
@@ -200,9 +200,13 @@ pub struct Part {
     len: usize,
 }
 
-pub fn fixed(bits: u32) -> Option<i32> {
-    let answer = unsafe { entries::leaf_fixed(bits) };
-    u32::try_from(answer).ok().map(|bits| bits as i32)
+/// The fixed number, and 1 where it is exact, else 0. The mark is filled before, so that one that is
+/// not written shows.
+pub fn fixed(bits: u32) -> Option<(i32, u32)> {
+    let mut mark = 0xa5;
+    let answer = unsafe { entries::leaf_fixed(bits, &mut mark) };
+    let number = u32::try_from(answer).ok()?;
+    Some((number as i32, mark))
 }
 
 pub fn narrow(bits: u64) -> u32 {

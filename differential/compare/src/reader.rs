@@ -7,9 +7,9 @@ use judge::encoding::{GRAY, RGB, XYB};
 use judge::inputs::{Random, damage, plans, profile_cases};
 use judge::list::hex;
 use judge::profiles::{self, Sheet, set_id, set_size};
+use judge::progress::Progress;
 use judge::reader::{self, Plan};
 
-use crate::progress::Progress;
 use crate::{Run, port};
 
 /// From this many files on, each answer must have occurred.

@@ -6,11 +6,11 @@ use std::fmt::{Display, Formatter, Result as Printed};
 use judge::inputs::Random;
 use judge::inputs::segments::{self as inputs, FAULTS, Fault, File, Files, LARGEST_ROOM, LONGEST};
 use judge::list::hex;
+use judge::progress::Progress;
 use judge::segments::{self, FRONT, MOST_DATA};
 use judge::{answer, bench, reader};
 
 use crate::lent::{Lent, put};
-use crate::progress::Progress;
 use crate::{Run, port};
 
 /// From this many calls on, each answer must have occurred.

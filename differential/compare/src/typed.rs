@@ -5,9 +5,9 @@ use std::fmt::{Display, Formatter, Result as Printed};
 use judge::encoding::{Encoding, GRAY, RGB};
 use judge::inputs::{Random, encodings, texts};
 use judge::list::hex;
+use judge::progress::Progress;
 use judge::{answer, typed};
 
-use crate::progress::Progress;
 use crate::{Run, port};
 
 /// From this many descriptions and texts on, each answer must have occurred.

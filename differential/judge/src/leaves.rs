@@ -29,6 +29,11 @@ pub fn fixed(bits: u32) -> Option<i32> {
     }
 }
 
+/// Whether a float times 65536 is whole (02, order 5). A double holds the product exactly.
+pub fn is_whole(bits: u32) -> bool {
+    (f64::from(f32::from_bits(bits)) * 65536.0).fract() == 0.0
+}
+
 /// `as f32`.
 pub fn narrow(bits: u64) -> u32 {
     float_bits(f64::from_bits(bits) as f32)

@@ -11,6 +11,7 @@ pub mod jobs;
 pub mod leaves;
 pub mod list;
 pub mod profiles;
+pub mod progress;
 pub mod reader;
 pub mod segments;
 pub mod typed;

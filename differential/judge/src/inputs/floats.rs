@@ -104,6 +104,24 @@ pub fn fixed(random: &mut Random, count: usize) -> Vec<u32> {
     })
 }
 
+/// Bits to try whether a fixed number is exact: the lowest digits are zeros, so that many floats are
+/// whole numbers of 65536ths, and others miss one by one digit.
+pub fn few_digits(random: &mut Random, count: usize) -> Vec<u32> {
+    let mut first = apart();
+    for power in -20..=15 {
+        let one = 2f32.powi(power);
+        first.extend(with_negatives([one]));
+        for digit in 1..24 {
+            let last = 2f32.powi(power - digit);
+            first.extend(with_negatives([one + last, 2.0 * one - last]));
+        }
+    }
+    super::filled(first, count, || {
+        let bits = random.sized(-18, 15).to_bits();
+        bits & (u32::MAX << random.below(24))
+    })
+}
+
 /// Bits to try the narrowing with.
 pub fn narrow(random: &mut Random, count: usize) -> Vec<u64> {
     let mut first: Vec<u64> = Vec::new();
