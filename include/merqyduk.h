@@ -29,8 +29,9 @@
  * merqyduk_write_gray 1,720, merqyduk_write_rgb 1,840, merqyduk_write_xyb 1,720, merqyduk_length_gray 912,
  * merqyduk_length_rgb 1,072, merqyduk_length_xyb 912, the same with _counted 1,736, 1,840, 1,736, 928, 1,088 and 928,
  * merqyduk_job 296, merqyduk_job_profile 1,968, merqyduk_read 3,720, merqyduk_find 3,784,
- * merqyduk_parse_description 712, merqyduk_write_segments 3,784, merqyduk_join_segments 6,200. Not counted is the dynamic linker, which takes about 2,600 more where a program's
- * first memcpy is looked up in the call; -Wl,-z,now has it looked up before.
+ * merqyduk_parse_description 712, merqyduk_write_segments 3,784, merqyduk_join_segments 6,200. Not counted is
+ * the dynamic linker, which takes about 2,600 more where a program's first memcpy is looked up in the call;
+ * -Wl,-z,now has it looked up before.
  *
  * Platform: Linux on any x86-64 processor. The calls go by the floating-point environment that a program
  * starts with: rounding to nearest, exceptions masked, subnormal numbers kept. A program linked with
