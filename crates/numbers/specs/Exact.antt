@@ -1,21 +1,20 @@
 -- What the mark of a fixed number says: value × 65536 is whole exactly if the number is the value, so that nothing was lost. Zeros of both signs are
 -- whole; a value that rounds to 0 and is none is not. Assumes nothing.
-use Prim.Native.Nat.{ℕ, _*_, _/_, _%_, _<_, _≤_}
+use Prim.Native.Nat.{ℕ, _*_, _/_, _%_, _<_}
 use mathlib.Core.Path.{_≡_, refl, sym, ap, subst, _∙_}
 use mathlib.Core.Logic.{_↔_}
 use mathlib.Core.Bool.{Bool, true, false, cond}
-use native.Mathlib.Nat.{mul-comm, mul-mod-left, div-add-mod', zero-mul, zero-mod}
+use native.Mathlib.Nat.{mul-pos, mul-mod-left, div-add-mod', zero-mul, zero-mod}
 use native.Mathlib.Omega.{arith}
 use lib.Dec.{T, leb, eqb, eqb→eq}
 use lib.IntN.{ℤ, natAbs}
 use lib.Ieee.{fin, up, down}
-use lib.Ieee.Fits.{down-pos}
-use borrow.Author.Tests.{eq-eqb, ne-eqb}
+use lib.Ieee.Fits.{up-pos, down-pos}
+use borrow.Author.Tests.{eq-eqb}
 use Rattle.floats.specs.Rounding.{halvesUp}
 use Rattle.floats.specs.RoundingLaws.{halvesUp-below}
-use Rattle.numbers.specs.Fixed.{signed, largest, wholeFraction, ofFraction, s15Fixed16, whole}
+use Rattle.numbers.specs.Fixed.{signed, largest, wholeFraction, s15Fixed16, whole}
 use Rattle.numbers.specs.FixedLaws.{natAbs-signed, no-number}
-use Rattle.numbers.specs.declared.fixed.S15Fixed16.{S15Fixed16}
 use Rattle.numbers.specs.declared.fixed.S15Fixed16.the-variants.{Number, OutOfRange}
 
 -- the magnitude is that of the value exactly if there is no rest
@@ -52,3 +51,14 @@ whole-exactly-if s m e {z} {w} h = go (leb (m * up e * 65536) (largest * down e)
 pub zero-whole : (s : Bool) (e : ℤ) → whole (fin s 0 e) ≡ true
 unfolding whole
 zero-whole s e = eq-eqb (0 * up e * 65536 % down e) 0 (ap (λ (k : ℕ). k * 65536 % down e) (zero-mul (up e)) ∙ zero-mod (down e))
+
+pub rounds-to-zero : (s : Bool) (m : ℕ) (e : ℤ) {z : ℤ} {w : Bool} → s15Fixed16 (fin s m e) ≡ Number z w → natAbs z ≡ 0 → 0 < m → w ≡ false
+rounds-to-zero s m e {z} {w} h zero some = go w h
+  where
+    go : (b : Bool) → s15Fixed16 (fin s m e) ≡ Number z b → b ≡ false
+    go false h = refl
+    go true h =
+        let equal : natAbs z * down e ≡ m * up e * 65536 = whole-exactly-if s m e h .0 refl in
+        let none : natAbs z * down e ≡ 0 = ap (λ (k : ℕ). k * down e) zero ∙ zero-mul (down e) in
+        let more : 0 < m * up e = mul-pos some (up-pos e) in
+        absurd (omega (arith, equal, none, more))

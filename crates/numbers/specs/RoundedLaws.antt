@@ -1,6 +1,6 @@
 -- Laws of the count of rounded numbers. Assumes nothing.
 use Prim.Native.Nat.{ℕ, _+_, _≤_, _<_}
-use mathlib.Core.Path.{_≡_, refl, sym, ap, _∙_}
+use mathlib.Core.Path.{_≡_, sym, ap, _∙_}
 use mathlib.Core.Bool.{Bool, true, false}
 use mathlib.Core.List.{List, [], _∷_, _++_}
 use native.Mathlib.Nat.{zero-add}
@@ -10,7 +10,7 @@ use lib.IntN.{ℤ}
 use lib.Ieee.{Float}
 use lib.ListN.{length, drop, getD}
 use lib.Seq.{drop-cons, drop-length}
-use Rattle.buffer.specs.Checked.{Checked, is, refused, then}
+use Rattle.buffer.specs.Checked.{Checked, is, refused}
 use Rattle.buffer.specs.CheckedLaws.{never}
 use Rattle.numbers.specs.Fixed.{s15Fixed16, whole}
 use Rattle.numbers.specs.FixedLaws.{mark-is}
@@ -54,11 +54,7 @@ module _ (v : List Float) where
     unfolding roundedIn
     one-more d h =
         let here = ap roundedIn (drop-cons v k d h) in
-        record { rest = rw (add-one k) (omega (arith, here, c .rest)); most = go (whole (getD v k d)) }
-      where
-        go : (b : Bool) → n + oneIfRounded b ≤ k + 1
-        go true = omega (arith, c .most)
-        go false = omega (arith, c .most)
+        record { rest = rw (add-one k) (omega (arith, here, c .rest)); most = omega (arith, most-one (whole (getD v k d)), c .most) }
 
     pub all-counted : length v ≡ k → n ≡ roundedIn v
     unfolding roundedIn
@@ -68,7 +64,7 @@ module _ (v : List Float) where
 
 module _ {A : Type 0} (xs : List Float) where
   pub counted-value : (c : Checked A) {v : Counted A} → is v ≡ counted xs c → c ≡ is (v .value)
-  counted-value (is a) e = let same : _ = e in ap is (sym (ap value-of e))
+  counted-value (is a) e = ap is (sym (ap value-of e))
     where
       value-of : Checked (Counted A) → A
       value-of (is v) = v .value
@@ -85,7 +81,7 @@ module _ {A : Type 0} (xs : List Float) where
 
   pub counted-refused : (c : Checked A) {n : ℕ} → refused n ≡ counted xs c → c ≡ refused n
   counted-refused (is a) e = absurd (never e)
-  counted-refused (refused m) e = sym (ap number-of e ∙ refl)
+  counted-refused (refused m) e = sym (ap number-of e)
     where
       number-of : Checked (Counted A) → Checked A
       number-of (is v) = is (v .value)

@@ -5,7 +5,7 @@ use mathlib.Core.List.{List, [], _∷_, _++_, map, map-append}
 use lib.IntN.{ℤ, pos}
 use lib.Ieee.{Float, ofBits}
 use lib.ListN.{length, length-append}
-use Rattle.buffer.specs.Checked.{Checked, is, valueOr, then, each}
+use Rattle.buffer.specs.Checked.{Checked, is, valueOr, then}
 use Rattle.buffer.specs.CheckedLaws.{never, both}
 use Rattle.floats.specs.Binary32.{one}
 use Rattle.numbers.specs.Fixed.{s15Fixed16, fixedOr, numberOf, fixedNumber}

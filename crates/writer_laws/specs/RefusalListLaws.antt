@@ -3,10 +3,8 @@ use Prim.Native.Nat.{ℕ}
 use mathlib.Core.Path.{_≡_, refl, sym, subst, _∙_}
 use mathlib.Core.Bool.{Bool, true, false, not, cond}
 use mathlib.Core.List.{List, [], _∷_}
-use native.Mathlib.Omega.{arith}
 use lib.Dec.{leb, leb→le}
 use lib.ListN.{length}
-use lib.IntN.{ℤ}
 use lib.Ieee.{Float}
 use borrow.Author.Tests.{le-leb}
 use Rattle.buffer.specs.All.{All, none, more}
@@ -14,8 +12,8 @@ use Rattle.buffer.specs.BoolLaws as Bools
 use Rattle.buffer.specs.Checked.{Checked, is, refused, then, each}
 use Rattle.buffer.specs.CheckedLaws.{then-assoc}
 use Rattle.buffer.specs.First.{First, fails, later}
-use Rattle.numbers.specs.Fixed.{s15Fixed16, whole, fixedOr}
-use Rattle.numbers.specs.FixedLaws.{number-if}
+use Rattle.numbers.specs.Fixed.{s15Fixed16, fixedOr}
+use Rattle.numbers.specs.FixedLaws.{no-number, number-if}
 use Rattle.numbers.specs.Rounded.{roundedIn, counted}
 use Rattle.numbers.specs.declared.fixed.S15Fixed16.{S15Fixed16}
 use Rattle.numbers.specs.declared.fixed.S15Fixed16.the-variants.{Number, OutOfRange}
@@ -39,9 +37,6 @@ pub data Decides (P : Type 0) (k : ℕ) {A : Type 0} (c : Checked A) : Type 0 wh
 pub fixed-decides : (k : ℕ) (x : Float) → Decides (Fits x) k (fixedOr k x)
 fixed-decides k x = go (s15Fixed16 x) refl
   where
-    no-number : {z : ℤ} {w : Bool} → OutOfRange ≡ Number z w → ⊥
-    no-number e = let z : _≡_ {A = ℕ} 0 1 = cc in absurd (omega arith)
-
     go : (s : S15Fixed16) → s15Fixed16 x ≡ s → Decides (Fits x) k (fixedOr k x)
     go (Number z w) h = let fixed : fixedOr k x ≡ is z = simp h in passes (z, number-if k x fixed) z fixed
     go OutOfRange h = refuses (λ f. no-number (sym h ∙ f .1)) (simp h)

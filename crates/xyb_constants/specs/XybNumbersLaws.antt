@@ -1,7 +1,7 @@
 -- The numbers of XybNumbers: their tables, by computation, where no fixed number is refused; their lengths. Assumes nothing.
 use Prim.Native.Nat.{ℕ}
 use mathlib.Core.Path.{_≡_, refl, ap}
-use mathlib.Core.List.{List, [], _∷_, map, flatten}
+use mathlib.Core.List.{List, [], _∷_, flatten}
 use lib.IntN.{ℤ, pos, negsuc}
 use lib.ListN.{length}
 use lib.Ieee.{ofBits, ofInt, neg, eq, lt, le, add, sub, mul, div}

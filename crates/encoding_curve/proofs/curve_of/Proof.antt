@@ -1,6 +1,6 @@
 -- `curve_of` meets its contract: each arm knows its curve, and a gamma's number and mark are what `to_s15_fixed_16` ensures.
 use Prim.Native.Nat.{ℕ}
-use mathlib.Core.Path.{_≡_, sym, ap, ap₂, _∙_}
+use mathlib.Core.Path.{sym, ap, ap₂, _∙_}
 use lib.IntN.{ℤ}
 use mir.Syntax.{w32}
 use mir.ValLaws.{toZ-ofZ}

@@ -1,11 +1,9 @@
 -- `fixed_numbers` meets its contract. The loop's invariant: the first k floats have passed, their numbers are there (`Each`), and so many of them
 -- were rounded (`CountedTo`).
-use Prim.Native.Nat.{ℕ, _+_, _-_, _≤_}
-use mathlib.Core.Path.{_≡_, sym, ap, ap₂, subst, _∙_}
-use mathlib.Core.List.{List}
+use Prim.Native.Nat.{ℕ, _-_, _≤_}
+use mathlib.Core.Path.{_≡_, sym, ap, _∙_}
 use native.Mathlib.Omega.{arith}
 use lib.ListN.{length, getD}
-use lib.IntN.{ℤ}
 use lib.Ieee.{nan}
 use mir.Syntax.{w32}
 use mir.Val.{toZ, ofZ}

@@ -2,7 +2,6 @@
 use Prim.Native.Nat.{ℕ, _+_}
 use mathlib.Core.Path.{_≡_, sym, ap, ap₂, _∙_}
 use lib.Dec.{lit<}
-use lib.IntN.{ℤ}
 use mir.Syntax.{w32}
 use mir.Val.{toZ, ofZ}
 use mir.ValLaws.{toZ-ofZ}
@@ -11,12 +10,10 @@ use borrow.Author.Tests.{eq-eqb, ne-eqb}
 use Rattle.buffer.specs.Checked.{is}
 use Rattle.color_encoding.specs.Coordinates.{whiteXy}
 use Rattle.color_encoding.specs.declared.WhiteXy.{WhiteXy}
-use Rattle.color_encoding.specs.declared.JxlColorEncoding.the-variants.{GrayscaleColorSpace}
-use Rattle.numbers.specs.Rounded.{Counted, counted}
+use Rattle.numbers.specs.Rounded.{counted}
 use Rattle.numbers.specs.RoundedLaws.{counted-value, counted-rounded, counted-refused}
 use Rattle.encoding_plan.specs.PlanOf.{supported, grayNumbers}
 use Rattle.encoding_plan.specs.PlanOfLaws.{gray-unsupported, gray-no-numbers, gray-no-curve, gray-plan}
-use Rattle.encoding_plan.specs.FixedFloats.{fixedFloats}
 use Rattle.encoding_plan.specs.FixedFloatsLaws.{gray-count}
 use Rattle.encoding_curve.specs.CurveOf.{checkedSupport, checkedCurve, curveOf, curveFloats}
 use Rattle.encoding_numbers.specs.NumbersOf.{checkedGrayNumbers, grayFloats}

@@ -8,12 +8,10 @@ use Rattle.buffer.specs.Checked.{is}
 use Rattle.color_encoding.specs.Coordinates.{whiteXy, primariesXy}
 use Rattle.color_encoding.specs.declared.WhiteXy.{WhiteXy}
 use Rattle.color_encoding.specs.declared.PrimariesXy.{PrimariesXy}
-use Rattle.color_encoding.specs.declared.JxlColorEncoding.the-variants.{RgbColorSpace}
-use Rattle.numbers.specs.Rounded.{Counted, counted}
+use Rattle.numbers.specs.Rounded.{counted}
 use Rattle.numbers.specs.RoundedLaws.{counted-value, counted-rounded, counted-refused}
 use Rattle.encoding_plan.specs.PlanOf.{supported, chadNumbers, columnNumbers}
 use Rattle.encoding_plan.specs.PlanOfLaws.{rgb-unsupported, rgb-no-chad, rgb-no-columns, rgb-no-curve, rgb-plan}
-use Rattle.encoding_plan.specs.FixedFloats.{fixedFloats}
 use Rattle.encoding_plan.specs.FixedFloatsLaws.{rgb-count}
 use Rattle.encoding_curve.specs.CurveOf.{checkedSupport, checkedCurve, curveOf, curveFloats}
 use Rattle.encoding_numbers.specs.NumbersOf.{checkedNineNumbers, chadFloats, columnFloats}

@@ -1,5 +1,5 @@
 -- `xyb_plan` meets its contract: each arm knows the intent.
-use mathlib.Core.Path.{sym, ap, _∙_}
+use mathlib.Core.Path.{sym, ap}
 use lib.Dec.{lit<}
 use borrow.Author.Needs.{needs}
 use Rattle.color_encoding.specs.declared.JxlColorEncoding.the-variants.{XYB}
