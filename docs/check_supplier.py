@@ -1,5 +1,5 @@
 #!/usr/bin/env python3
-"""Checks SUPPLIER.md: its constants, the right numbers of its tables, and those of XYB.
+"""Checks SUPPLIER.md: its constants, the right numbers of its tables, those of XYB, and which constants are rounded.
 
   docs/check_supplier.py [SRC]
 
@@ -198,9 +198,39 @@ def check_xyb():
     print(f"{count} elements of XYB")
 
 
+def check_counts():
+    """Holds the counts of rounded numbers against the bits of the constants, and their sums against the numbers of a file."""
+    constants = list(rows(["what", "in the Rust", "width", "bits", "definition"]))
+
+    def rounded_of(name):
+        """How many of the constants with this name or definition, as f32, are no whole number of 65536ths."""
+        named = [row for row in constants if row[0] == name or row[4].endswith(f"#{name}`")]
+        values = [value_of(int(pattern, 16), width) for _, _, width, bits, _ in named for pattern in bits.split(", ")]
+        return sum((value_of(bits_of(value, "f32"), "f32") * 65536).denominator != 1 for value in values)
+
+    # Linear has ones and zeros; of XYB's matrix the constants, and not the intercepts.
+    due = {"SRGB": rounded_of("curve SRGB"), "BT709": rounded_of("curve BT709"), "Linear": 0, "DCI": rounded_of("curve DCI, gamma")}
+    white, matrix = rounded_of("d50Floats"), rounded_of("xybIccMatrix")
+    for curve, numbers, rounded in rows(["curve", "numbers", "rounded"]):
+        if numbers != ("1" if curve == "gamma" else "5") or str(due.get(curve, "by 1 / g")) != rounded:
+            yield f"curve {curve}: {numbers} numbers, {rounded} rounded"
+    kind, sums = "", {}
+    for name, tag, numbers, _, rounded in rows(["kind", "tag", "numbers", "made from", "rounded"]):
+        kind = name or kind
+        if tag == "`wtpt`" and kind != "gray" and rounded != str(white):
+            yield f"{kind}, {tag}: {white} are rounded, not {rounded}"
+        if "matrix" in tag and int(rounded) != matrix + 3:
+            yield f"{kind}, {tag}: {matrix} of the constants are rounded"
+        most, count = sums.get(kind, (0, 0))
+        sums[kind] = most + int(numbers.split(" ")[0]), count + int(rounded if rounded.isdigit() else 0)
+    if sums["RGB"][0] != 26 or sums["gray"][0] != 8 or sums["XYB"] != (45, 30):
+        yield f"numbers of each kind, and those that are always rounded: {sums}"
+    print(f"{sum(most for most, _ in sums.values())} numbers that may be rounded")
+
+
 def main():
     source = pathlib.Path(sys.argv[1]) if len(sys.argv) > 1 else None
-    wrong = list(check_constants(source)) + list(check_encodings()) + list(check_cases()) + list(check_xyb())
+    wrong = list(check_constants(source)) + list(check_encodings()) + list(check_cases()) + list(check_xyb()) + list(check_counts())
     for line in wrong:
         print(line)
     return 1 if wrong else 0

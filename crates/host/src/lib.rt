@@ -205,23 +205,19 @@ fn answered(profile: Profile, rounded: &mut u32) -> u32
 fn write_counted(code: EncodingCode, out: &mut [u8], rounded: &mut u32) -> u32
     ensures { λ r. ⌜ WritesCounted (knownEncoding code) (now (out .entry)) (now (out .exit)) (now (rounded .entry)) (now (rounded .exit)) r ⌝ }
 {
-    match code {
-        EncodingCode::Known(encoding) => {
-            answered(writer::maybe_create_profile(encoding, out), rounded)
-        }
-        EncodingCode::Unknown => color_encoding::UNKNOWN,
-    }
+    let EncodingCode::Known(encoding) = code else {
+        return color_encoding::UNKNOWN;
+    };
+    answered(writer::maybe_create_profile(encoding, out), rounded)
 }
 
 fn length_counted(code: EncodingCode, capacity: usize, rounded: &mut u32) -> u32
     ensures { λ r. ⌜ MeasuresCounted (knownEncoding code) capacity (now (rounded .entry)) (now (rounded .exit)) r ⌝ }
 {
-    match code {
-        EncodingCode::Known(encoding) => {
-            answered(writer::profile_length(encoding, capacity), rounded)
-        }
-        EncodingCode::Unknown => color_encoding::UNKNOWN,
-    }
+    let EncodingCode::Known(encoding) = code else {
+        return color_encoding::UNKNOWN;
+    };
+    answered(writer::profile_length(encoding, capacity), rounded)
 }
 
 #[no_mangle]

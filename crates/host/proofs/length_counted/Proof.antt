@@ -6,12 +6,20 @@ use Rattle.host.proofs.length_counted.Statement.{statement}
 use Rattle.host.proofs.length_counted.Tie as tie
 
 returns : tie.Need-returns
-returns c =
+returns c = rw (c .enum-told .given .1) (record { measures = record { told = λ k. refl; answer = refl }; rounded = refl })
+
+returns-2 : tie.Need-returns-2
+returns-2 c =
     let call = c .before .before in
     rw (call .before .before .code .given .1, c .answered .ensures .0, c .answered .ensures .1) (count-measured _ (call .profile-length .ensures))
 
-returns-2 : tie.Need-returns-2
-returns-2 c = rw (c .enum-told .given .1) (record { measures = record { told = λ k. refl; answer = refl }; rounded = refl })
-
 pub length-counted-spec : {M : Type 1} → statement M
-length-counted-spec = tie.close (tie.spec (λ c. search needs) (λ c κs. search needs) (λ c κs. search needs) (λ c. search needs) returns returns-2)
+length-counted-spec =
+    tie.close
+    (tie.spec
+    (λ c. search needs)
+    (λ c. search needs)
+    returns
+    (λ c κs. search needs)
+    (λ c κs. search needs)
+    returns-2)

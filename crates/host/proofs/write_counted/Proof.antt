@@ -6,12 +6,21 @@ use Rattle.host.proofs.write_counted.Statement.{statement}
 use Rattle.host.proofs.write_counted.Tie as tie
 
 returns : tie.Need-returns
-returns c =
+returns c = rw (c .enum-told .given .1) (record { writes = record { writes = record { answer = refl; output = refl }; told = λ k. refl }; rounded = refl })
+
+returns-2 : tie.Need-returns-2
+returns-2 c =
     let call = c .before .before .before .before in
     rw (call .before .before .before .code .given .1, c .answered .ensures .0, c .answered .ensures .1) (count-written _ (call .maybe-create-profile .ensures))
 
-returns-2 : tie.Need-returns-2
-returns-2 c = rw (c .enum-told .given .1) (record { writes = record { writes = record { answer = refl; output = refl }; told = λ k. refl }; rounded = refl })
-
 pub write-counted-spec : {M : Type 1} → statement M
-write-counted-spec = tie.close (tie.spec (λ c. search needs) (λ c κs. search needs) (λ c κs. search needs) (λ c. search needs) (λ c. search needs) returns returns-2)
+write-counted-spec =
+    tie.close
+    (tie.spec
+    (λ c. search needs)
+    (λ c. search needs)
+    returns
+    (λ c κs. search needs)
+    (λ c κs. search needs)
+    (λ c. search needs)
+    returns-2)
