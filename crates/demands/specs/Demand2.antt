@@ -11,7 +11,6 @@ use Rattle.buffer.specs.Checked.{Checked, is, refused}
 use Rattle.buffer.specs.CheckedLaws.{Passes}
 use Rattle.numbers.specs.Rounded.{roundedIn, counted}
 use Rattle.color_encoding.specs.declared.RenderingIntent.the-variants.{Perceptual}
-use Rattle.color_encoding.specs.declared.JxlTransferFunction.the-variants as F
 use Rattle.color_encoding.specs.declared.JxlColorEncoding.{JxlColorEncoding}
 use Rattle.color_encoding.specs.declared.JxlColorEncoding.the-variants.{RgbColorSpace, GrayscaleColorSpace, XYB}
 use Rattle.text.specs.Held.{HeldEncoding}

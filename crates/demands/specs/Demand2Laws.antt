@@ -28,7 +28,6 @@ use Rattle.color_encoding.specs.declared.PrimariesXy.{PrimariesXy}
 use Rattle.color_encoding.specs.declared.JxlWhitePoint.{JxlWhitePoint}
 use Rattle.color_encoding.specs.declared.JxlPrimaries.{JxlPrimaries}
 use Rattle.color_encoding.specs.declared.JxlTransferFunction.{JxlTransferFunction}
-use Rattle.color_encoding.specs.declared.JxlTransferFunction.the-variants as F
 use Rattle.color_encoding.specs.declared.JxlColorEncoding.{JxlColorEncoding}
 use Rattle.color_encoding.specs.declared.JxlColorEncoding.the-variants.{RgbColorSpace, GrayscaleColorSpace, XYB}
 use Rattle.white_point.specs.GrayWhite.{cieXyzFromWhiteCieXy}
@@ -44,11 +43,11 @@ use Rattle.encoding_plan.specs.PlanOf.{supported, curveOf, grayNumbers, chadNum
 use Rattle.encoding_plan.specs.FixedFloats.{fixedFloats, countedPlan}
 use Rattle.encoding_plan.specs.PlanOfLaws.{gray-plan, rgb-plan}
 use Rattle.encoding_curve.specs.declared.SupportedCurve.{SupportedCurve}
-use Rattle.encoding_curve.specs.declared.SupportedCurve.the-variants as Supported
 use Rattle.validate.specs.Validate.{isS15Fixed16, allS15Fixed16, inRangeOr, whiteInRange, matrixInRange, matricesInRange, inRange, standsFor, errorAt, validation, validateIccMatrix}
 use Rattle.validate.specs.declared.Validation.the-variants.{Valid, InvalidWhitePointY, InvalidWhitePoint, MatrixInversionFailed, ValueOutOfRange}
 use Rattle.writer.specs.Writer.{answer, tooShort}
 use Rattle.writer.specs.declared.Profile.the-variants.{Written, Refused}
+use Rattle.writer_laws.specs.PlanLaws.{gray-parts, rgb-parts}
 use Rattle.writer_laws.specs.RefusalList.{NeitherPqNorHlg, ReciprocalFits}
 use Rattle.writer_laws.specs.RefusalListLaws.{Decides, passes, refuses}
 use Rattle.writer_laws.specs.WriterAnswersLaws.{supported-decides, curve-decides}
@@ -222,12 +221,10 @@ module _ (t : JxlTransferFunction) where
 
 module _ (w : JxlWhitePoint) (t : JxlTransferFunction) (i : RenderingIntent) where
   pub gray-planned : {p : Plan} → planOf (GrayscaleColorSpace w t i) ≡ is p → (inRange (GrayscaleColorSpace w t i) ≡ is tt) × ReciprocalFits t
-  unfolding planOf inRange
+  unfolding inRange
   gray-planned e =
-      let s = both (supported t) _ e in
-      let n = both (grayNumbers (whiteXy w)) _ (s .second) in
-      let c = both (curveOf (s .value)) _ (n .second) in
-      (sym (gray-tested (whiteXy w)) ∙ ap passed (n .first), reciprocal-if t (s .first) (c .first))
+      let g = gray-parts w t i e in
+      (sym (gray-tested (whiteXy w)) ∙ ap passed (g .white-is), reciprocal-if t (g .support-is) (g .curve-is))
 
   module _ (h : NeitherPqNorHlg t) where
     pub gray-plan-if : ReciprocalFits t → inRange (GrayscaleColorSpace w t i) ≡ is tt → Passes (planOf (GrayscaleColorSpace w t i))
@@ -244,13 +241,10 @@ module _ (w : JxlWhitePoint) (t : JxlTransferFunction) (i : RenderingIntent) whe
 
 module _ (w : JxlWhitePoint) (q : JxlPrimaries) (t : JxlTransferFunction) (i : RenderingIntent) where
   pub rgb-planned : {p : Plan} → planOf (RgbColorSpace w q t i) ≡ is p → (inRange (RgbColorSpace w q t i) ≡ is tt) × ReciprocalFits t
-  unfolding planOf inRange
+  unfolding inRange
   rgb-planned e =
-      let s = both (supported t) _ e in
-      let m = both (chadNumbers (whiteXy w)) _ (s .second) in
-      let k = both (columnNumbers (primariesXy q) (whiteXy w)) _ (m .second) in
-      let c = both (curveOf (s .value)) _ (k .second) in
-      (sym (rgb-tested (primariesXy q) (whiteXy w)) ∙ rw (m .first, k .first), reciprocal-if t (s .first) (c .first))
+      let g = rgb-parts w q t i e in
+      (sym (rgb-tested (primariesXy q) (whiteXy w)) ∙ rw (g .chad-is, g .columns-are), reciprocal-if t (g .support-is) (g .curve-is))
 
   module _ (h : NeitherPqNorHlg t) where
     pub rgb-plan-if : ReciprocalFits t → inRange (RgbColorSpace w q t i) ≡ is tt → Passes (planOf (RgbColorSpace w q t i))

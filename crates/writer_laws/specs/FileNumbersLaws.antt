@@ -36,8 +36,8 @@ use Rattle.encoding_curve.specs.declared.SupportedCurve.{SupportedCurve}
 use Rattle.encoding_curve.specs.declared.SupportedCurve.the-variants as Supported
 use Rattle.encoding_numbers.specs.NumbersOf.{grayNumbers, chadNumbers, columnNumbers, grayFloats, chadFloats, columnFloats}
 use Rattle.encoding_plan.specs.FixedFloats.{transferFloats, fixedFloats}
-use Rattle.encoding_plan.specs.PlanOf.{cicpOf, grayPlan, rgbPlan, planOf}
-use Rattle.writer_laws.specs.PlanLaws.{chad-nine, columns-nine}
+use Rattle.encoding_plan.specs.PlanOf.{planOf}
+use Rattle.writer_laws.specs.PlanLaws.{chad-nine, columns-nine, gray-parts, rgb-parts}
 use Rattle.writer_laws.specs.FileNumbers.{curveNumbers, identityNumbers, fixedNumbers, byCurve, numberCount}
 
 abbrev pub numbersOf : List Float → List ℤ
@@ -130,24 +130,17 @@ Numbers e p = (numbersOf (fixedFloats e) ≡ fixedNumbers (p .content)) × Nines
 pub file-numbers : (e : JxlColorEncoding) {p : Plan} → planOf e ≡ is p → Numbers e p
 unfolding planOf fixedFloats
 file-numbers (GrayscaleColorSpace w t i) {p} e =
-    let s = both (supported t) _ e in
-    let n = both (grayNumbers (whiteXy w)) _ (s .second) in
-    let c = both (curveOf (s .value)) _ (n .second) in
-    let same : grayPlan (GrayscaleColorSpace w t i) i (c .value) (n .value) ≡ p = cc (c .second) in
-    let floats = after (grayFloats (whiteXy w)) (transferFloats t) (gray-numbers (whiteXy w) (n .first)) (transfer-numbers t (s .first) (c .first)) in
-    subst (Numbers (GrayscaleColorSpace w t i)) same (floats, tt)
+    let g = gray-parts w t i e in
+    let floats = after (grayFloats (whiteXy w)) (transferFloats t) (gray-numbers (whiteXy w) (g .white-is)) (transfer-numbers t (g .support-is) (g .curve-is)) in
+    subst (Numbers (GrayscaleColorSpace w t i)) (g .plan-is) (floats, tt)
 file-numbers (RgbColorSpace w q t i) {p} e =
-    let s = both (supported t) _ e in
-    let m = both (chadNumbers (whiteXy w)) _ (s .second) in
-    let k = both (columnNumbers (primariesXy q) (whiteXy w)) _ (m .second) in
-    let c = both (curveOf (s .value)) _ (k .second) in
-    let same : rgbPlan (RgbColorSpace w q t i) i (c .value) (cicpOf w q (c .value)) (m .value) (k .value) ≡ p = cc (c .second) in
+    let g = rgb-parts w q t i e in
     let chad = chadFloats (whiteXy w) in
     let columns = columnFloats (primariesXy q) (whiteXy w) in
     let matrices =
-    after (d50Floats ++ chad) columns (after d50Floats chad d50-rounded (chad-numbers (whiteXy w) (m .first))) (column-numbers (primariesXy q) (whiteXy w) (k .first)) in
-    let floats = after (d50Floats ++ chad ++ columns) (transferFloats t) matrices (transfer-numbers t (s .first) (c .first)) in
-    subst (Numbers (RgbColorSpace w q t i)) same (floats, (chad-nine (whiteXy w) (m .first), columns-nine (primariesXy q) (whiteXy w) (k .first)))
+    after (d50Floats ++ chad) columns (after d50Floats chad d50-rounded (chad-numbers (whiteXy w) (g .chad-is))) (column-numbers (primariesXy q) (whiteXy w) (g .columns-are)) in
+    let floats = after (d50Floats ++ chad ++ columns) (transferFloats t) matrices (transfer-numbers t (g .support-is) (g .curve-is)) in
+    subst (Numbers (RgbColorSpace w q t i)) (g .plan-is) (floats, (chad-nine (whiteXy w) (g .chad-is), columns-nine (primariesXy q) (whiteXy w) (g .columns-are)))
 file-numbers (XYB Perceptual) {p} e =
     let same : record { intent = 0; content = xyb } ≡ p = cc in
     subst (Numbers (XYB Perceptual)) same (after d50Floats Xyb.fixedFloats d50-rounded xyb-numbers, tt)

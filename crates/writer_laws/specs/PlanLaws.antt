@@ -10,25 +10,29 @@ use Rattle.buffer.specs.CheckedLaws.{both, each-length, each-all}
 use Rattle.numbers.specs.Fixed.{fixedOr}
 use Rattle.numbers.specs.FixedLaws.{within-if}
 use Rattle.linalg.specs.Linalg.{component, rows, columns}
+use Rattle.color_encoding.specs.Coordinates.{whiteXy, primariesXy}
 use Rattle.color_encoding.specs.declared.WhiteXy.{WhiteXy}
 use Rattle.color_encoding.specs.declared.PrimariesXy.{PrimariesXy}
 use Rattle.color_encoding.specs.declared.JxlWhitePoint.{JxlWhitePoint}
 use Rattle.color_encoding.specs.declared.JxlWhitePoint.the-variants as W
 use Rattle.color_encoding.specs.declared.JxlPrimaries.{JxlPrimaries}
 use Rattle.color_encoding.specs.declared.JxlPrimaries.the-variants as P
+use Rattle.color_encoding.specs.declared.RenderingIntent.{RenderingIntent}
+use Rattle.color_encoding.specs.declared.JxlTransferFunction.{JxlTransferFunction}
 use Rattle.color_encoding.specs.declared.JxlColorEncoding.{JxlColorEncoding}
+use Rattle.color_encoding.specs.declared.JxlColorEncoding.the-variants.{RgbColorSpace, GrayscaleColorSpace}
 use Rattle.white_point.specs.GrayWhite.{cieXyzFromWhiteCieXy}
 use Rattle.adaptation.specs.Adapt.{chadMatrix}
 use Rattle.colorimetry.specs.Primaries.{createIccRgbMatrix}
 use Rattle.text.specs.Description.{description}
 use Rattle.text.specs.Held.{HeldEncoding, WhiteInRange}
 use Rattle.text.specs.Bounds.{length-in-range, some-letter, ascii-description}
-use Rattle.profile.specs.Plan.{InRange, GoodText, GoodCurve, GoodCicp}
+use Rattle.profile.specs.Plan.{Plan, InRange, GoodText, GoodCurve, GoodCicp}
 use Rattle.profile.specs.declared.Curve.{Curve}
 use Rattle.profile.specs.declared.Curve.the-variants.{Named, Gamma}
 use Rattle.profile.specs.declared.CurveName.{CurveName}
 use Rattle.encoding_plan.specs.Answers.{reciprocalRefusal}
-use Rattle.encoding_plan.specs.PlanOf.{curveOf, grayNumbers, chadNumbers, columnNumbers, cicpPair, cicpOf}
+use Rattle.encoding_plan.specs.PlanOf.{supported, curveOf, grayNumbers, chadNumbers, columnNumbers, cicpPair, cicpOf, grayPlan, rgbPlan, planOf}
 use Rattle.encoding_curve.specs.declared.SupportedCurve.{SupportedCurve}
 use Rattle.encoding_curve.specs.declared.SupportedCurve.the-variants as Supported
 
@@ -89,3 +93,60 @@ cicp-good w p (Gamma g) = tt
 
 pub text-good : (e : JxlColorEncoding) → HeldEncoding e → WhiteInRange e → GoodText (description e)
 text-good e h r = record { some-letter = some-letter e; short = length-in-range e h r; ascii = ascii-description e }
+
+-- ---- the parts of which the plan of an accepted encoding is made
+
+pub record GrayParts (w : JxlWhitePoint) (t : JxlTransferFunction) (i : RenderingIntent) (p : Plan) : Type 0 where
+  pub support : SupportedCurve
+  pub support-is : supported t ≡ is support
+  pub white : ℤ × ℤ
+  pub white-is : grayNumbers (whiteXy w) ≡ is white
+  pub curve : Curve
+  pub curve-is : curveOf support ≡ is curve
+  pub plan-is : grayPlan (GrayscaleColorSpace w t i) i curve white ≡ p
+
+pub gray-parts : (w : JxlWhitePoint) (t : JxlTransferFunction) (i : RenderingIntent) {p : Plan} → planOf (GrayscaleColorSpace w t i) ≡ is p → GrayParts w t i p
+unfolding planOf
+gray-parts w t i e =
+    let s = both (supported t) _ e in
+    let n = both (grayNumbers (whiteXy w)) _ (s .second) in
+    let c = both (curveOf (s .value)) _ (n .second) in
+    record {
+      support = s .value;
+      support-is = s .first;
+      white = n .value;
+      white-is = n .first;
+      curve = c .value;
+      curve-is = c .first;
+      plan-is = cc (c .second);
+    }
+
+pub record RgbParts (w : JxlWhitePoint) (q : JxlPrimaries) (t : JxlTransferFunction) (i : RenderingIntent) (p : Plan) : Type 0 where
+  pub support : SupportedCurve
+  pub support-is : supported t ≡ is support
+  pub chad : List ℤ
+  pub chad-is : chadNumbers (whiteXy w) ≡ is chad
+  pub columns : List ℤ
+  pub columns-are : columnNumbers (primariesXy q) (whiteXy w) ≡ is columns
+  pub curve : Curve
+  pub curve-is : curveOf support ≡ is curve
+  pub plan-is : rgbPlan (RgbColorSpace w q t i) i curve (cicpOf w q curve) chad columns ≡ p
+
+pub rgb-parts : (w : JxlWhitePoint) (q : JxlPrimaries) (t : JxlTransferFunction) (i : RenderingIntent) {p : Plan} → planOf (RgbColorSpace w q t i) ≡ is p → RgbParts w q t i p
+unfolding planOf
+rgb-parts w q t i e =
+    let s = both (supported t) _ e in
+    let m = both (chadNumbers (whiteXy w)) _ (s .second) in
+    let k = both (columnNumbers (primariesXy q) (whiteXy w)) _ (m .second) in
+    let c = both (curveOf (s .value)) _ (k .second) in
+    record {
+      support = s .value;
+      support-is = s .first;
+      chad = m .value;
+      chad-is = m .first;
+      columns = k .value;
+      columns-are = k .first;
+      curve = c .value;
+      curve-is = c .first;
+      plan-is = cc (c .second);
+    }

@@ -3,7 +3,7 @@
 -- Assumes nothing.
 use mathlib.Core.Path.{_≡_, refl}
 use Rattle.buffer.specs.Checked.{is}
-use Rattle.buffer.specs.CheckedLaws.{never, both}
+use Rattle.buffer.specs.CheckedLaws.{never}
 use Rattle.color_encoding.specs.IntentLaws.{intentNumber-le}
 use Rattle.color_encoding.specs.Coordinates.{whiteXy, primariesXy}
 use Rattle.color_encoding.specs.declared.RenderingIntent.the-variants.{Perceptual, Relative, Saturation, Absolute}
@@ -11,47 +11,40 @@ use Rattle.color_encoding.specs.declared.JxlColorEncoding.{JxlColorEncoding}
 use Rattle.color_encoding.specs.declared.JxlColorEncoding.the-variants.{RgbColorSpace, GrayscaleColorSpace, XYB}
 use Rattle.text.specs.Held.{HeldEncoding}
 use Rattle.profile.specs.Plan.{Plan, xyb, Valid}
-use Rattle.encoding_plan.specs.PlanOf.{supported, curveOf, grayNumbers, chadNumbers, columnNumbers, cicpOf, grayPlan, rgbPlan, planOf}
+use Rattle.encoding_plan.specs.PlanOf.{planOf}
 use Rattle.encoding_plan.specs.WhiteLaws.{white-in-range}
-use Rattle.writer_laws.specs.PlanLaws.{chad-nine, chad-within, columns-nine, columns-within, white-within, curve-good, cicp-good, text-good}
+use Rattle.writer_laws.specs.PlanLaws.{chad-nine, chad-within, columns-nine, columns-within, white-within, curve-good, cicp-good, text-good, gray-parts, rgb-parts}
 
 pub plan-valid : (e : JxlColorEncoding) → HeldEncoding e → {p : Plan} → planOf e ≡ is p → Valid p
 unfolding planOf
 plan-valid (GrayscaleColorSpace w t i) held {p} e =
-    let s = both (supported t) _ e in
-    let n = both (grayNumbers (whiteXy w)) _ (s .second) in
-    let c = both (curveOf (s .value)) _ (n .second) in
-    let same : grayPlan (GrayscaleColorSpace w t i) i (c .value) (n .value) ≡ p = cc (c .second) in
-    let xz = white-within (whiteXy w) (n .first) in
-    rw (← same)
+    let g = gray-parts w t i e in
+    let xz = white-within (whiteXy w) (g .white-is) in
+    rw (← g .plan-is)
     (record {
       intent = intentNumber-le i;
       content =
           record {
             text = text-good (GrayscaleColorSpace w t i) held tt;
-            curve = curve-good (s .value) (c .first);
+            curve = curve-good (g .support) (g .curve-is);
             white-x = xz .0;
             white-z = xz .1;
           };
     })
 plan-valid (RgbColorSpace w q t i) held {p} e =
-    let s = both (supported t) _ e in
-    let m = both (chadNumbers (whiteXy w)) _ (s .second) in
-    let k = both (columnNumbers (primariesXy q) (whiteXy w)) _ (m .second) in
-    let c = both (curveOf (s .value)) _ (k .second) in
-    let same : rgbPlan (RgbColorSpace w q t i) i (c .value) (cicpOf w q (c .value)) (m .value) (k .value) ≡ p = cc (c .second) in
-    rw (← same)
+    let g = rgb-parts w q t i e in
+    rw (← g .plan-is)
     (record {
       intent = intentNumber-le i;
       content =
           record {
-            text = text-good (RgbColorSpace w q t i) held (white-in-range w (m .first));
-            curve = curve-good (s .value) (c .first);
-            chad-nine = chad-nine (whiteXy w) (m .first);
-            chad = chad-within (whiteXy w) (m .first);
-            columns-nine = columns-nine (primariesXy q) (whiteXy w) (k .first);
-            columns = columns-within (primariesXy q) (whiteXy w) (k .first);
-            cicp = cicp-good w q (c .value);
+            text = text-good (RgbColorSpace w q t i) held (white-in-range w (g .chad-is));
+            curve = curve-good (g .support) (g .curve-is);
+            chad-nine = chad-nine (whiteXy w) (g .chad-is);
+            chad = chad-within (whiteXy w) (g .chad-is);
+            columns-nine = columns-nine (primariesXy q) (whiteXy w) (g .columns-are);
+            columns = columns-within (primariesXy q) (whiteXy w) (g .columns-are);
+            cicp = cicp-good w q (g .curve);
           };
     })
 plan-valid (XYB Perceptual) held {p} e =

@@ -40,10 +40,10 @@ use Rattle.profile.specs.declared.Curve.the-variants.{Named, Gamma}
 use Rattle.profile.specs.declared.CurveName.{CurveName}
 use Rattle.profile.specs.declared.CurveName.the-variants as Name
 use Rattle.encoding_plan.specs.Answers.{reciprocalRefusal}
-use Rattle.encoding_plan.specs.PlanOf.{supported, curveOf, grayNumbers, chadNumbers, columnNumbers, cicpOf, grayPlan, rgbPlan, planOf}
+use Rattle.encoding_plan.specs.PlanOf.{supported, curveOf, cicpOf, grayPlan, rgbPlan, planOf}
 use Rattle.encoding_plan.specs.WhiteLaws.{white-in-range}
 use Rattle.writer.specs.Writer.{maxWritten}
-use Rattle.writer_laws.specs.PlanLaws.{chad-nine, columns-nine}
+use Rattle.writer_laws.specs.PlanLaws.{chad-nine, columns-nine, gray-parts, rgb-parts}
 use Rattle.encoding_curve.specs.declared.SupportedCurve.{SupportedCurve}
 use Rattle.encoding_curve.specs.declared.SupportedCurve.the-variants as Supported
 
@@ -141,21 +141,14 @@ rgb-most w p n (Gamma g) h = gamma-most n h
 pub at-most : (e : JxlColorEncoding) → HeldEncoding e → {p : Plan} → planOf e ≡ is p → length (layout p) ≤ maxWritten
 unfolding planOf slotsOf fileLength start bodySize tagCount padding
 at-most (GrayscaleColorSpace w t i) held {p} e =
-    let s = both (supported t) _ e in
-    let n = both (grayNumbers (whiteXy w)) _ (s .second) in
-    let c = both (curveOf (s .value)) _ (n .second) in
-    let same : grayPlan (GrayscaleColorSpace w t i) i (c .value) (n .value) ≡ p = cc (c .second) in
-    rw (← same, length-layout (grayPlan (GrayscaleColorSpace w t i) i (c .value) (n .value)) tt)
-    (gray-most (length (description (GrayscaleColorSpace w t i))) (isGamma (c .value)) (length-in-range (GrayscaleColorSpace w t i) held tt))
+    let g = gray-parts w t i e in
+    rw (← g .plan-is, length-layout (grayPlan (GrayscaleColorSpace w t i) i (g .curve) (g .white)) tt)
+    (gray-most (length (description (GrayscaleColorSpace w t i))) (isGamma (g .curve)) (length-in-range (GrayscaleColorSpace w t i) held tt))
 at-most (RgbColorSpace w q t i) held {p} e =
-    let s = both (supported t) _ e in
-    let m = both (chadNumbers (whiteXy w)) _ (s .second) in
-    let k = both (columnNumbers (primariesXy q) (whiteXy w)) _ (m .second) in
-    let c = both (curveOf (s .value)) _ (k .second) in
-    let plan = rgbPlan (RgbColorSpace w q t i) i (c .value) (cicpOf w q (c .value)) (m .value) (k .value) in
-    let same : plan ≡ p = cc (c .second) in
-    rw (← same, length-layout plan (chad-nine (whiteXy w) (m .first), columns-nine (primariesXy q) (whiteXy w) (k .first)))
-    (rgb-most w q (length (description (RgbColorSpace w q t i))) (c .value) (rgb-letters w q i (white-in-range w (m .first)) (c .first) t held (s .first)))
+    let g = rgb-parts w q t i e in
+    let plan = rgbPlan (RgbColorSpace w q t i) i (g .curve) (cicpOf w q (g .curve)) (g .chad) (g .columns) in
+    rw (← g .plan-is, length-layout plan (chad-nine (whiteXy w) (g .chad-is), columns-nine (primariesXy q) (whiteXy w) (g .columns-are)))
+    (rgb-most w q (length (description (RgbColorSpace w q t i))) (g .curve) (rgb-letters w q i (white-in-range w (g .chad-is)) (g .curve-is) t held (g .support-is)))
 at-most (XYB Perceptual) held {p} e =
     let plan : Plan = record { intent = 0; content = xyb } in
     let same : plan ≡ p = cc in
