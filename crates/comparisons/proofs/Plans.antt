@@ -17,8 +17,8 @@ use Rattle.profile.specs.ElementsLaws.{length-table}
 use Rattle.profile.specs.Plan.{Content, gray, rgb, xyb, kindOf, kind, maxLetters}
 use Rattle.profile.specs.PlanLaws.{good-nines, at-most, fours}
 use Rattle.profile.specs.Numbers.{planOf}
-use Rattle.profile.specs.Layout.{Varying, header, layout}
-use Rattle.profile.specs.LayoutLaws.{length-header, length-layout, header-put-intent, header-put-id}
+use Rattle.profile.specs.Layout.{Varying, header, blankHeader, layout}
+use Rattle.profile.specs.LayoutLaws.{withIntent, length-header, length-layout, header-put-intent, header-put-id}
 use Rattle.profile.specs.Shape.{shapeOf, shape, slotsOf, maxLength}
 use Rattle.layout.specs.Begun.{Begun}
 use Rattle.profile.specs.declared.Kind.{Kind}
@@ -78,10 +78,14 @@ module _ (f : List ℕ) (p : Numbers) (t : List ℕ) (c : Candidate f p t) where
       of-content (rgb g) = refl
       of-content xyb = refl
 
+  device-is : (p .maker ≡ varyingOf f .maker) × (p .model ≡ varyingOf f .model)
+  unfolding planIn
+  device-is = (ap (λ (n : Numbers). n .maker) (c .numbers), ap (λ (n : Numbers). n .model) (c .numbers))
+
   -- header and tag table of the file, with the intent and the id zero, are those of the plan
   blank-front : (at : ℕ) → at ≡ start (slotsOf (shape (planOf p t)))
       → put (put (take at f) 64 (be32 0)) 84 (zeros 16)
-      ≡ header (kind (planOf p t)) (record { size = length f; intent = 0; id = zeros 16 }) ++ table (slotsOf (shape (planOf p t)))
+      ≡ blankHeader (kind (planOf p t)) (length f) (p .maker) (p .model) ++ table (slotsOf (shape (planOf p t)))
   blank-front at e =
       let s = shapeIn f in
       let k = s .kind in
@@ -96,10 +100,11 @@ module _ (f : List ℕ) (p : Numbers) (t : List ℕ) (c : Candidate f p t) where
       front-length k v s (id-length f ok21) ∙ ap (λ s. start (slotsOf s)) (sym shape-of) ∙ sym e
       in
       ap (λ x. put (put x 64 (be32 0)) 84 (zeros 16)) (ap (take at) here ∙ take-at (header k v ++ table (slotsOf s)) (bodyOf f) at ends)
-      ∙ ap (λ x. put x 84 (zeros 16)) (header-put-intent k (v .size) (v .intent) 0 (v .id) (table (slotsOf s)))
-      ∙ header-put-id k (v .size) 0 (v .id) (zeros 16) (table (slotsOf s)) (id-length f ok21) refl
-      ∙ ap₂ (λ (n : ℕ) (k : Kind). header k (record { size = n; intent = 0; id = zeros 16 }) ++ table (slotsOf s)) (h .sized .size) (sym kind-is)
-      ∙ ap (λ s. header (kind (planOf p t)) (record { size = length f; intent = 0; id = zeros 16 }) ++ table (slotsOf s)) (sym shape-of)
+      ∙ ap (λ x. put x 84 (zeros 16)) (header-put-intent k v 0 (table (slotsOf s)))
+      ∙ header-put-id k (withIntent 0 v) (zeros 16) (table (slotsOf s)) (id-length f ok21) refl
+      ∙ ap₂ (λ (n : ℕ) (k : Kind). blankHeader k n (v .maker) (v .model) ++ table (slotsOf s)) (h .sized .size) (sym kind-is)
+      ∙ ap₂ (λ (a b : ℕ). blankHeader (kind (planOf p t)) (length f) a b ++ table (slotsOf s)) (sym (device-is .0)) (sym (device-is .1))
+      ∙ ap (λ s. blankHeader (kind (planOf p t)) (length f) (p .maker) (p .model) ++ table (slotsOf s)) (sym shape-of)
 
   -- put into the front of zeros, they begin the layout of the plan
   pub starts-layout : (at : ℕ) (l : List ℕ) → at ≡ start (slotsOf (shape (planOf p t)))
@@ -107,7 +112,7 @@ module _ (f : List ℕ) (p : Numbers) (t : List ℕ) (c : Candidate f p t) where
   starts-layout at l e h =
       let p = planOf p t in
       let b = blank-front at e in
-      let q : List ℕ = header (kind p) (record { size = length f; intent = 0; id = zeros 16 }) ++ table (slotsOf (shape p)) in
+      let q : List ℕ = blankHeader (kind p) (length f) (p .maker) (p .model) ++ table (slotsOf (shape p)) in
       let here : l ≡ put (zeros maxLength) 0 q = h ∙ ap (put (zeros maxLength) 0) b in
       let ends : length q ≡ at = front-length (kind p) _ (shape p) refl ∙ sym e in
       let fits : 0 + length q ≤ length (zeros maxLength) = rw length-replicate (omega (arith, ends, e, start-inside, at-most-1240)) in

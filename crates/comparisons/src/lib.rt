@@ -1,6 +1,8 @@
 // The parts of a file compared with those that are laid out for it: the header of a kind, the tag table of a shape, the elements and the id of a plan.
 use header::ID;
 use header::INTENT;
+use header::MAKER;
+use header::MODEL;
 use header::create_icc_header;
 use layout::MAX_LENGTH;
 use profile::Kind;
@@ -34,13 +36,15 @@ const ID_END: usize = ID + ID_SIZE;
 // Where the longest tag table ends.
 const MAX_TABLE_END: usize = HEADER_SIZE + 4 + MAX_TAGS * ENTRY_SIZE;
 
-// Whether the header is that of a kind, with the size, the intent and the id that the file states.
+// Whether the header is that of a kind, with the size, the maker, the model, the intent and the id that the file states.
 pub fn header_is(file: &[u8], kind: Kind, intent: u32) -> bool
     requires { ⌜ (headerSize + countSize ≤ length (now file)) × (varyingOf (now file) .size ≡ length (now file)) × (intent ≡ varyingOf (now file) .intent) ⌝ }
     ensures { λ r. ⌜ r ≡ same (take headerSize (now (file .entry))) (header kind (varyingOf (now (file .entry)))) ⌝ }
 {
+    let maker = words::read_u32_be(file, MAKER);
+    let model = words::read_u32_be(file, MODEL);
     let mut laid = [0u8; HEADER_SIZE];
-    create_icc_header(&mut laid, file.len() as u32, kind);
+    create_icc_header(&mut laid, file.len() as u32, kind, maker, model);
     words::put_u32_be(&mut laid, INTENT, intent);
     buffer::put_bytes(&mut laid, ID, &file[ID..ID_END]);
     buffer::same_bytes(&file[..HEADER_SIZE], &laid)

@@ -2,7 +2,7 @@
 -- Perceptual and the output is not shorter than the profile; 1,200 bytes are enough. And where `validate_icc_matrix` refuses, the writer refuses by a
 -- number that its answer stands for. Assumes nothing.
 use Prim.Native.Nat.{ℕ, _≤_}
-use mathlib.Core.Path.{_≡_, refl, ap, _∙_}
+use mathlib.Core.Path.{_≡_, refl, sym, ap, _∙_}
 use mathlib.Core.Logic.{_↔_}
 use mathlib.Core.Bool.{true}
 use native.Mathlib.Nat.{le-trans}
@@ -17,9 +17,12 @@ use Rattle.text.specs.Held.{HeldEncoding}
 use Rattle.profile.specs.Layout.{layout}
 use Rattle.encoding_plan.specs.PlanOf.{planOf}
 use Rattle.encoding_plan.specs.FixedFloats.{fixedFloats, countedPlan}
+use Rattle.encoding_plan.specs.EncodingPlan.{countedEncodingPlan}
+use Rattle.encoding_plan.specs.declared.Encoding.{Encoding}
 use Rattle.validate.specs.Validate.{inRange, standsFor, validation, validateIccMatrix}
 use Rattle.validate.specs.declared.Validation.the-variants.{Valid}
 use Rattle.writer.specs.Writer.{answer, maxWritten}
+use Rattle.writer.specs.WriterLaws.{any-device}
 use Rattle.writer.specs.declared.Profile.the-variants.{Written, Refused}
 use Rattle.writer_laws.specs.RefusalList.{Ok1, Ok2, Ok8, Ok9}
 use Rattle.writer_laws.specs.WrittenLength.{written-length}
@@ -36,22 +39,25 @@ pub record Acceptable (e : JxlColorEncoding) : Type 0 where
   pub intent : Ok2 e
 
 -- what `maybe_create_profile` answers for an output of n bytes is a length, with the count of rounded numbers
-pub record Succeeds (e : JxlColorEncoding) (n : ℕ) : Type 0 where
+pub record Succeeds (e : Encoding) (n : ℕ) : Type 0 where
   pub size : ℕ
   pub rounded : ℕ
-  pub answers : answer (countedPlan e) n ≡ Written size rounded
+  pub answers : answer (countedEncodingPlan e) n ≡ Written size rounded
 
 -- what it answers is a number that the answer of `validate_icc_matrix` stands for
-pub record RefusesAsNamed (e : JxlColorEncoding) (n : ℕ) : Type 0 where
+pub record RefusesAsNamed (e : Encoding) (n : ℕ) : Type 0 where
   pub number : ℕ
-  pub answers : answer (countedPlan e) n ≡ Refused number
-  pub named : standsFor (validateIccMatrix e) number ≡ true
+  pub answers : answer (countedEncodingPlan e) n ≡ Refused number
+  pub named : standsFor (validateIccMatrix (e .color)) number ≡ true
 
 -- ---- the theorems
 
-pub succeeds-exactly-if : (e : JxlColorEncoding) → Ok1 e → (n : ℕ) → Succeeds e n ↔ (Acceptable e × Ok9 e n)
-succeeds-exactly-if e h n = (λ s. (acceptable e (has-plan e n (s .answers)), has-room e n (s .answers)), λ a. succeeds (plan e h (a .0)) (a .1))
+pub succeeds-exactly-if : (e : Encoding) → Ok1 (e .color) → (n : ℕ) → Succeeds e n ↔ (Acceptable (e .color) × Ok9 (e .color) n)
+succeeds-exactly-if e h n = (λ s. (acceptable (e .color) (has-plan (e .color) n (answers s)), has-room (e .color) n (answers s)), λ a. succeeds (plan (e .color) h (a .0)) (a .1))
   where
+    answers : (s : Succeeds e n) → answer (countedPlan (e .color)) n ≡ Written (s .size) (s .rounded)
+    answers s = sym (any-device e n) ∙ s .answers
+
     acceptable : (e : JxlColorEncoding) → Passes (planOf e) → Acceptable e
     acceptable (GrayscaleColorSpace w t i) p = let a = gray-planned w t i (p .given) in record { matrix = ap validation (a .0); gamma = a .1; intent = tt }
     acceptable (RgbColorSpace w q t i) p = let a = rgb-planned w q t i (p .given) in record { matrix = ap validation (a .0); gamma = a .1; intent = tt }
@@ -62,22 +68,27 @@ succeeds-exactly-if e h n = (λ s. (acceptable e (has-plan e n (s .answers)), ha
     plan (RgbColorSpace w q t i) h a = rgb-plan-if w q t i h (a .gamma) (valid-if _ (a .matrix))
     plan (XYB i) h a = xyb-plan-if i (a .intent)
 
-    succeeds : Passes (planOf e) → Ok9 e n → Succeeds e n
-    succeeds p room = record { size = length (layout (p .value)); rounded = roundedIn (fixedFloats e); answers = written e n (p .given) (room (p .value) (p .given)) }
+    succeeds : Passes (planOf (e .color)) → Ok9 (e .color) n → Succeeds e n
+    succeeds p room =
+        record { size = length (layout (p .value)); rounded = roundedIn (fixedFloats (e .color)); answers = any-device e n ∙ written (e .color) n (p .given) (room (p .value) (p .given)) }
 
 -- the floats of the encoding are binary32 values, as those of the code are
 pub enough-output : (e : JxlColorEncoding) → HeldEncoding e → (n : ℕ) → maxWritten ≤ n → Ok9 e n
 enough-output e held n enough p h = le-trans (written-length e held h .1) enough
 
-pub refuses-as-named : (e : JxlColorEncoding) → Ok1 e → (validateIccMatrix e ≡ Valid → ⊥) → (n : ℕ) → RefusesAsNamed e n
-refuses-as-named e h invalid n = go (inRange e) refl
+pub refuses-as-named : (e : Encoding) → Ok1 (e .color) → (validateIccMatrix (e .color) ≡ Valid → ⊥) → (n : ℕ) → RefusesAsNamed e n
+refuses-as-named e h invalid n = go (inRange (e .color)) refl
   where
     refuses : (e : JxlColorEncoding) → Ok1 e → {k : ℕ} → inRange e ≡ refused k → planOf e ≡ refused k
     refuses (GrayscaleColorSpace w t i) h r = gray-refused w t i h r
     refuses (RgbColorSpace w q t i) h r = rgb-refused w q t i h r
     refuses (XYB i) h r = xyb-refused i r
 
-    go : (c : Checked (Unit {0})) → inRange e ≡ c → RefusesAsNamed e n
+    go : (c : Checked (Unit {0})) → inRange (e .color) ≡ c → RefusesAsNamed e n
     go (is u) r = absurd (invalid (ap validation r))
     go (refused k) r =
-        record { number = k; answers = ap (λ p. answer (counted (fixedFloats e) p) n) (refuses e h r); named = ap (λ c. standsFor (validation c) k) r ∙ named e r }
+        record {
+          number = k;
+          answers = any-device e n ∙ ap (λ p. answer (counted (fixedFloats (e .color)) p) n) (refuses (e .color) h r);
+          named = ap (λ c. standsFor (validation c) k) r ∙ named (e .color) r;
+        }

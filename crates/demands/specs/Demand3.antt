@@ -2,20 +2,21 @@
 -- output of `maybe_create_profile`. `layout` is what a plan lays out to, `told` the plan that the reader's struct tells, `readingBy` the struct that a
 -- C struct's bytes tell. Assumes nothing.
 use Prim.Native.Nat.{ℕ, _≤_}
-use mathlib.Core.Path.{_≡_, sym}
+use mathlib.Core.Path.{_≡_, sym, ap}
 use mathlib.Core.Logic.{_↔_}
 use mathlib.Core.List.{List}
 use lib.ListN.{length, take}
 use Rattle.buffer.specs.Checked.{is, refused}
-use Rattle.color_encoding.specs.declared.JxlColorEncoding.{JxlColorEncoding}
 use Rattle.profile.specs.Plan.{Plan, Valid}
 use Rattle.profile.specs.Shape.{minLength, maxLength}
 use Rattle.profile.specs.Layout.{layout}
-use Rattle.encoding_plan.specs.PlanOf.{planOf}
 use Rattle.encoding_plan.specs.FixedFloats.{fixedFloats}
+use Rattle.encoding_plan.specs.EncodingPlan.{encodingPlan}
+use Rattle.encoding_plan.specs.EncodingPlanLaws.{devised}
+use Rattle.encoding_plan.specs.declared.Encoding.{Encoding}
 use Rattle.writer.specs.Writer.{Creates}
 use Rattle.writer.specs.declared.Profile.the-variants.{Written}
-use Rattle.writer_laws.specs.PlanValid.{plan-valid}
+use Rattle.writer_laws.specs.PlanValid.{encoding-plan-valid}
 use Rattle.reader_spec.specs.RefusalList.{Check, FirstFailing, checks, number}
 use Rattle.reader_spec.specs.Read.{read}
 use Rattle.reader_spec.specs.Owners.{Owned}
@@ -76,22 +77,25 @@ module _ (f before after : List ℕ) (r : ℕ) (h : ReadsInC f before after r) w
 
 -- ---- the writer
 
--- the first n bytes of an output are the encoding's plan laid out, and the reader answers that plan to them
-pub record WroteItsPlan (e : JxlColorEncoding) (n : ℕ) (after : List ℕ) : Type 0 where
+-- the first n bytes of an output are the encoding's plan laid out, which has its maker and model, and the reader answers that plan to them
+pub record WroteItsPlan (e : Encoding) (n : ℕ) (after : List ℕ) : Type 0 where
   pub plan : Plan
-  pub its-plan : planOf e ≡ is plan
+  pub its-plan : encodingPlan e ≡ is plan
+  pub its-device : (plan .maker ≡ e .maker) × (plan .model ≡ e .model)
   pub valid : Valid plan
   pub laid-out : take n after ≡ layout plan
   pub read-back : (r : Reading) → Reads (take n after) r → told r ≡ is plan
 
 -- `maybe_create_profile` ensures `Creates`
-pub written : (e : JxlColorEncoding) (n : ℕ) {k : ℕ} (before after : List ℕ) → Creates e before after (Written n k) → WroteItsPlan e n after
+pub written : (e : Encoding) (n : ℕ) {k : ℕ} (before after : List ℕ) → Creates e before after (Written n k) → WroteItsPlan e n after
 written e n before after w =
-    let p = front-of (fixedFloats e) (planOf e) before after (w .writes .answer) (w .writes .output) in
-    let valid : Valid (p .0) = plan-valid e (w .held) (p .1) in
+    let p = front-of (fixedFloats (e .color)) (encodingPlan e) before after (w .writes .answer) (w .writes .output) in
+    let valid : Valid (p .0) = encoding-plan-valid e (w .held) (w .maker) (w .model) (p .1) in
+    let device = devised e (p .1) .device in
     record {
       plan = p .0;
       its-plan = p .1;
+      its-device = (ap (λ (q : Plan). q .maker) (sym device), ap (λ (q : Plan). q .model) (sym device));
       valid = valid;
       laid-out = p .2;
       read-back = λ r h. answers (take n after) r h (p .0) .1 (valid, sym (p .2));

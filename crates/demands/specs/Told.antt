@@ -35,6 +35,8 @@ numbersIn r =
     record {
       kind = kindBy (r .kind);
       intent = r .intent;
+      maker = r .maker;
+      model = r .model;
       curve = curveBy (r .curve) (r .gamma);
       cicp = cicpBy (r .cicp);
       «white_x» = r .«white_x»;

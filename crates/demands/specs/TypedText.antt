@@ -29,13 +29,13 @@ module _ (text before after : List ℕ) (r : ℕ) where
       let told = record-of e before after (typed-held text e d) (s .1) in
       (s .0, told .0, told .1)
 
-  -- a call that writes, by the numbers of the record, promises what it promises for that encoding
+  -- a call that writes, by the numbers of the record, promises what it promises for that encoding; maker and model are zero
   pub typed-is-written : (e : JxlColorEncoding) → StoresEncoding (parse text) before after r → Describes text e → zeroGamma e ≡ false
       → encodingSize ≤ length before
-      → (out out′ : List ℕ) (n : ℕ) → WritesCode (encodingBy after) out out′ n ↔ WritesCode (is e) out out′ n
+      → (out out′ : List ℕ) (n : ℕ) → WritesCode 0 0 (encodingBy after) out out′ n ↔ WritesCode 0 0 (is e) out out′ n
   typed-is-written e h d z room out out′ n =
       let told = typed-in-c e h d z room .1 in
-      let Promise : Checked JxlColorEncoding → Type 0 = λ c. WritesCode c out out′ n in
+      let Promise : Checked JxlColorEncoding → Type 0 = λ c. WritesCode 0 0 c out out′ n in
       (subst Promise told, subst Promise (sym told))
 
   module _ (h : StoresEncoding (parse text) before after r) where

@@ -1,7 +1,9 @@
 pub mod Answers
 pub mod PlanOf
 pub mod FixedFloats
+pub mod EncodingPlan
 pub mod FixedFloatsLaws
 pub mod AnswersLaws
 pub mod PlanOfLaws
 pub mod WhiteLaws
+pub mod EncodingPlanLaws

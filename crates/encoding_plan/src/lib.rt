@@ -1,4 +1,4 @@
-// The plan of an encoding, or its refusal.
+// The plan of an encoding, or its refusal: of its color encoding, maker and model being zero.
 use color_encoding::JxlColorEncoding;
 use color_encoding::JxlPrimaries;
 use color_encoding::JxlTransferFunction;
@@ -8,8 +8,28 @@ use encoding_curve::CurveAnswer;
 use encoding_curve::Support;
 use profile::Numbers;
 ghost use mathlib.Core.Path.{_≡_};
+ghost use Rattle.encoding_plan.specs.EncodingPlan.{plainEncoding};
 ghost use Rattle.encoding_plan.specs.FixedFloats.{countedPlan};
 ghost use Rattle.encoding_plan.specs.Answers.{checkedPlan};
+
+// An encoding of the users: the color encoding of the image, and the device's manufacturer and model for the profile's header, four bytes each, the
+// first the most significant.
+pub struct Encoding {
+    pub color: JxlColorEncoding,
+    pub maker: u32,
+    pub model: u32,
+}
+
+// An encoding with maker and model zero, as job entries and typed texts mean it.
+pub fn plain_encoding(color: JxlColorEncoding) -> Encoding
+    ensures { λ r. ⌜ r ≡ plainEncoding color ⌝ }
+{
+    Encoding {
+        color,
+        maker: 0,
+        model: 0,
+    }
+}
 
 // How many of the three numbers of the white of the PCS are rounded, which is `wtpt` of RGB and XYB, and how many of the other numbers of XYB.
 const D50_ROUNDED: u32 = 2;
@@ -130,6 +150,7 @@ fn xyb_plan(intent: RenderingIntent) -> EncodingPlan
     }
 }
 
+// Maker and model are zero.
 pub fn plan_of(encoding: JxlColorEncoding) -> EncodingPlan
     ensures { λ r. ⌜ checkedPlan r encoding ≡ countedPlan encoding ⌝ }
 {

@@ -93,7 +93,7 @@ fn put_profile(out: &mut [u8], at: usize, encoding: JxlColorEncoding) -> usize
     requires { ⌜ at + length (profileBytes (planOf encoding)) ≤ length (now out) ⌝ }
     ensures { λ r. ⌜ PutsText (now (out .entry)) at (profileBytes (planOf encoding)) r (now (out .exit)) ⌝ }
 {
-    match writer::maybe_create_profile(encoding, &mut out[at..]) {
+    match writer::maybe_create_profile(encoding_plan::plain_encoding(encoding), &mut out[at..]) {
         Profile::Written {
             length: n,
             rounded: _,

@@ -18,7 +18,11 @@ use elements::put_s15_fixed_16s;
 use elements::write_icc_tag;
 use profile::Kind;
 
-// Where the intent and the id stand.
+// Where maker, model, intent and id stand.
+pub const MAKER: usize = 48;
+
+pub const MODEL: usize = 52;
+
 pub const INTENT: usize = 64;
 
 pub const ID: usize = 84;
@@ -77,26 +81,37 @@ fn put_date_and_platform(out: &mut [u8], at: usize) -> usize
     buffer::put_bytes(out, at, &bytes)
 }
 
-// Flags, manufacturer, model and attributes, all zero; intent; PCS illuminant; creator; id and reserved bytes, all zero.
+// Flags, all zero; device manufacturer and model; attributes, all zero.
+fn put_device(out: &mut [u8], at: usize, maker: u32, model: u32) -> usize
+    requires { ⌜ at + 20 ≤ length (now out) ⌝ }
+    ensures { λ r. ⌜ Puts (now (out .entry)) at 20 (join (zeros 4 ∷ be32 maker ∷ be32 model ∷ zeros 8 ∷ [])) r (now (out .exit)) ⌝ }
+{
+    let at = buffer::put_zeros(out, at, 4);
+    let at = words::put_u32_be(out, at, maker);
+    let at = words::put_u32_be(out, at, model);
+    buffer::put_zeros(out, at, 8)
+}
+
+// Intent; PCS illuminant; creator; id and reserved bytes, all zero.
 fn put_last_fields(out: &mut [u8], at: usize) -> usize
-    requires { ⌜ at + 84 ≤ length (now out) ⌝ }
-    ensures { λ r. ⌜ Puts (now (out .entry)) at 84 (join (zeros 4 ∷ zeros 16 ∷ be32 0 ∷ s15Fixed16s Layout.D50 ∷ Sig.jxl ∷ zeros 16 ∷ zeros 28 ∷ [])) r (now (out .exit)) ⌝ }
+    requires { ⌜ at + 64 ≤ length (now out) ⌝ }
+    ensures { λ r. ⌜ Puts (now (out .entry)) at 64 (join (be32 0 ∷ s15Fixed16s Layout.D50 ∷ Sig.jxl ∷ zeros 16 ∷ zeros 28 ∷ [])) r (now (out .exit)) ⌝ }
 {
     let white = D50;
-    let at = buffer::put_zeros(out, at, 20);
     let at = words::put_u32_be(out, at, 0);
     let at = put_s15_fixed_16s(out, at, &white);
     let at = write_icc_tag(out, at, *b"jxl ");
     buffer::put_zeros(out, at, 44)
 }
 
-pub fn create_icc_header(out: &mut [u8], size: u32, kind: Kind)
+pub fn create_icc_header(out: &mut [u8], size: u32, kind: Kind, maker: u32, model: u32)
     requires { ⌜ headerSize ≤ length (now out) ⌝ }
-    ensures { λ _. ⌜ now (out .exit) ≡ put (now (out .entry)) 0 (Layout.header kind (record { size = size; intent = 0; id = zeros 16 })) ⌝ }
+    ensures { λ _. ⌜ now (out .exit) ≡ put (now (out .entry)) 0 (Layout.blankHeader kind size maker model) ⌝ }
 {
     let at = words::put_u32_be(out, 0, size);
     let at = put_class_and_space(out, at, kind);
     let at = put_date_and_platform(out, at);
+    let at = put_device(out, at, maker, model);
     put_last_fields(out, at);
 }
 

@@ -11,6 +11,7 @@ use Rattle.buffer.specs.Buffer.{put}
 use Rattle.buffer.specs.Checked.{Checked, is, refused, valueOr, then}
 use Rattle.color_encoding.specs.declared.JxlColorEncoding.{JxlColorEncoding}
 use Rattle.encoding_plan.specs.FixedFloats.{countedPlan}
+use Rattle.encoding_plan.specs.EncodingPlan.{encodingWith}
 use Rattle.profile.specs.Elements.{Entry}
 use Rattle.writer.specs.Writer.{tooShort, answer, number, countAfter, profileBy, Writes}
 use Rattle.writer.specs.declared.Profile.{Profile}
@@ -25,13 +26,13 @@ use Rattle.app2.specs.App2 as App2
 
 -- ---- the profile of an encoding that comes by codes
 
--- the writer's answer to what the codes mean, on an output of n bytes
+-- the writer's answer to what the codes mean, on an output of n bytes, whatever maker and model are (writer, WriterLaws)
 abbrev pub codeAnswer : Checked JxlColorEncoding → ℕ → Profile
 codeAnswer c n = answer (then c countedPlan) n
 
--- the writer's promise, with its answer as one number, which tells that answer but for its count
-pub record WritesCode (c : Checked JxlColorEncoding) (before after : List ℕ) (r : ℕ) : Type 0 where
-  pub writes : Writes number c before after r
+-- the writer's promise, with this maker and this model, its answer as one number, which tells that answer but for its count
+pub record WritesCode (maker model : ℕ) (c : Checked JxlColorEncoding) (before after : List ℕ) (r : ℕ) : Type 0 where
+  pub writes : Writes number (then c (λ e. is (encodingWith maker model e))) before after r
   pub told : (k : ℕ) → profileBy r (countAfter (codeAnswer c (length before)) k) ≡ codeAnswer c (length before)
 
 -- the writer's answer on an output of n bytes, as one number, which tells it but for its count
@@ -39,9 +40,9 @@ pub record MeasuresCode (c : Checked JxlColorEncoding) (n r : ℕ) : Type 0 wher
   pub told : (k : ℕ) → profileBy r (countAfter (codeAnswer c n) k) ≡ codeAnswer c n
   pub answer : r ≡ number (codeAnswer c n)
 
--- both with the count in a lent number, which was k at entry and is m at exit
+-- both with the count in a lent number, which was k at entry and is m at exit; maker and model are zero
 pub record WritesCounted (c : Checked JxlColorEncoding) (before after : List ℕ) (k m r : ℕ) : Type 0 where
-  pub writes : WritesCode c before after r
+  pub writes : WritesCode 0 0 c before after r
   pub rounded : m ≡ countAfter (codeAnswer c (length before)) k
 
 pub record MeasuresCounted (c : Checked JxlColorEncoding) (n k m r : ℕ) : Type 0 where

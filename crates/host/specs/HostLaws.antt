@@ -9,8 +9,10 @@ use Rattle.buffer.specs.Buffer.{put}
 use Rattle.buffer.specs.Checked.{Checked, is, refused}
 use Rattle.color_encoding.specs.declared.JxlColorEncoding.{JxlColorEncoding}
 use Rattle.profile.specs.Elements.{Entry}
+use Rattle.encoding_plan.specs.EncodingPlan.{encodingWith, plainEncoding}
 use Rattle.writer.specs.Writer.{tooShort, number, countAfter, profileBy, Creates, MeasuresProfile}
 use Rattle.writer.specs.declared.Profile.{Profile}
+use Rattle.writer.specs.WriterLaws.{any-device}
 use Rattle.writer_laws.specs.RefusalNumbers.{answer-told}
 use Rattle.reading.specs.declared.Reading.{Reading}
 use Rattle.plan_record.specs.PlanRecord.{recordSize, planRecord}
@@ -26,18 +28,22 @@ code-measured {e} {n} m same =
     record { told = λ k. ap (λ (r : Profile). profileBy (number r) (countAfter (codeAnswer (is e) n) k)) known ∙ answer-told e (m .held) n k; answer = ap number known }
 
 -- and with one
-pub code-written : {e : JxlColorEncoding} {before after : List ℕ} {p q : Profile} → Creates e before after p → p ≡ q → WritesCode (is e) before after (number q)
-code-written {e} {before} w same =
-    let m = code-measured {e = e} {n = length before} (record { answer = w .writes .answer; held = w .held }) same in
-    record { writes = record { answer = m .answer; output = w .writes .output }; told = m .told }
+pub code-written : {e : JxlColorEncoding} {a b : ℕ} {before after : List ℕ} {p q : Profile} → Creates (encodingWith a b e) before after p → p ≡ q
+    → WritesCode a b (is e) before after (number q)
+code-written {e} {a} {b} {before} w same =
+    let any = any-device (encodingWith a b e) (length before) in
+    let m = code-measured {e = e} {n = length before} (record { answer = w .writes .answer ∙ any; held = w .held }) same in
+    record { writes = record { answer = m .answer ∙ ap number (sym any); output = w .writes .output }; told = m .told }
 
 -- ---- with the count in a lent number
 
 pub count-measured : {e : JxlColorEncoding} {n : ℕ} (k : ℕ) {p : Profile} → MeasuresProfile e n p → MeasuresCounted (is e) n k (countAfter p k) (number p)
 count-measured k m = record { measures = code-measured m refl; rounded = ap (λ (r : Profile). countAfter r k) (m .answer) }
 
-pub count-written : {e : JxlColorEncoding} {before after : List ℕ} (k : ℕ) {p : Profile} → Creates e before after p → WritesCounted (is e) before after k (countAfter p k) (number p)
-count-written k w = record { writes = code-written w refl; rounded = ap (λ (r : Profile). countAfter r k) (w .writes .answer) }
+pub count-written : {e : JxlColorEncoding} {before after : List ℕ} (k : ℕ) {p : Profile} → Creates (plainEncoding e) before after p
+    → WritesCounted (is e) before after k (countAfter p k) (number p)
+count-written {e} {before} k w =
+    record { writes = code-written w refl; rounded = ap (λ (r : Profile). countAfter r k) (w .writes .answer ∙ any-device (plainEncoding e) (length before)) }
 
 -- ---- a file read into a lent record
 

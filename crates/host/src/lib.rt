@@ -4,6 +4,7 @@
 use app2::Output;
 use color_encoding::EncodingCode;
 use description_parser::Parsed;
+use encoding_plan::Encoding;
 use job::JobAnswer;
 use job_output::JobProfile;
 use writer::Profile;
@@ -25,17 +26,24 @@ ghost use Rattle.host.specs.Host.{WritesCode, MeasuresCode, WritesCounte
 
 // ---- the profile of an encoding
 
-fn write(code: EncodingCode, out: &mut [u8]) -> u32
-    ensures { λ r. ⌜ WritesCode (knownEncoding code) (now (out .entry)) (now (out .exit)) r ⌝ }
+fn write(code: EncodingCode, maker: u32, model: u32, out: &mut [u8]) -> u32
+    ensures { λ r. ⌜ WritesCode maker model (knownEncoding code) (now (out .entry)) (now (out .exit)) r ⌝ }
 {
     match code {
-        EncodingCode::Known(encoding) => match writer::maybe_create_profile(encoding, out) {
-            Profile::Written {
-                length: n,
-                rounded: _,
-            } => n,
-            Profile::Refused(number) => number,
-        },
+        EncodingCode::Known(color) => {
+            let encoding = Encoding {
+                color,
+                maker,
+                model,
+            };
+            match writer::maybe_create_profile(encoding, out) {
+                Profile::Written {
+                    length: n,
+                    rounded: _,
+                } => n,
+                Profile::Refused(number) => number,
+            }
+        }
         EncodingCode::Unknown => color_encoding::UNKNOWN,
     }
 }
@@ -50,10 +58,12 @@ pub extern "C" fn merqyduk_write_gray(
     intent: u32,
     out: &mut [u8],
 ) -> u32
-    ensures { λ r. ⌜ WritesCode (grayFrom (whitePointFrom white wx wy) (transferFunctionFrom curve gamma) (intentFrom intent)) (now (out .entry)) (now (out .exit)) r ⌝ }
+    ensures { λ r. ⌜ WritesCode 0 0 (grayFrom (whitePointFrom white wx wy) (transferFunctionFrom curve gamma) (intentFrom intent)) (now (out .entry)) (now (out .exit)) r ⌝ }
 {
     write(
         encoding_codes::gray_from_numbers(white, wx, wy, curve, gamma, intent),
+        0,
+        0,
         out,
     )
 }
@@ -75,7 +85,7 @@ pub extern "C" fn merqyduk_write_rgb(
     intent: u32,
     out: &mut [u8],
 ) -> u32
-    ensures { λ r. ⌜ WritesCode (rgbFrom (whitePointFrom white wx wy) (primariesFrom primaries rx ry gx gy bx by) (transferFunctionFrom curve gamma) (intentFrom intent)) (now (out .entry)) (now (out .exit)) r ⌝ }
+    ensures { λ r. ⌜ WritesCode 0 0 (rgbFrom (whitePointFrom white wx wy) (primariesFrom primaries rx ry gx gy bx by) (transferFunctionFrom curve gamma) (intentFrom intent)) (now (out .entry)) (now (out .exit)) r ⌝ }
 {
     write(
         encoding_codes::rgb_from_numbers(
@@ -93,15 +103,96 @@ pub extern "C" fn merqyduk_write_rgb(
             gamma,
             intent,
         ),
+        0,
+        0,
         out,
     )
 }
 
 #[no_mangle]
 pub extern "C" fn merqyduk_write_xyb(intent: u32, out: &mut [u8]) -> u32
-    ensures { λ r. ⌜ WritesCode (xybFrom (intentFrom intent)) (now (out .entry)) (now (out .exit)) r ⌝ }
+    ensures { λ r. ⌜ WritesCode 0 0 (xybFrom (intentFrom intent)) (now (out .entry)) (now (out .exit)) r ⌝ }
 {
-    write(encoding_codes::xyb_from_number(intent), out)
+    write(encoding_codes::xyb_from_number(intent), 0, 0, out)
+}
+
+// ---- the same with maker and model, four bytes each, the first the most significant
+
+#[no_mangle]
+pub extern "C" fn merqyduk_write_gray_device(
+    white: u32,
+    wx: f32,
+    wy: f32,
+    curve: u32,
+    gamma: f32,
+    intent: u32,
+    maker: u32,
+    model: u32,
+    out: &mut [u8],
+) -> u32
+    ensures { λ r. ⌜ WritesCode maker model (grayFrom (whitePointFrom white wx wy) (transferFunctionFrom curve gamma) (intentFrom intent)) (now (out .entry)) (now (out .exit)) r ⌝ }
+{
+    write(
+        encoding_codes::gray_from_numbers(white, wx, wy, curve, gamma, intent),
+        maker,
+        model,
+        out,
+    )
+}
+
+#[no_mangle]
+pub extern "C" fn merqyduk_write_rgb_device(
+    white: u32,
+    wx: f32,
+    wy: f32,
+    primaries: u32,
+    rx: f32,
+    ry: f32,
+    gx: f32,
+    gy: f32,
+    bx: f32,
+    by: f32,
+    curve: u32,
+    gamma: f32,
+    intent: u32,
+    maker: u32,
+    model: u32,
+    out: &mut [u8],
+) -> u32
+    ensures { λ r. ⌜ WritesCode maker model (rgbFrom (whitePointFrom white wx wy) (primariesFrom primaries rx ry gx gy bx by) (transferFunctionFrom curve gamma) (intentFrom intent)) (now (out .entry)) (now (out .exit)) r ⌝ }
+{
+    write(
+        encoding_codes::rgb_from_numbers(
+            white,
+            wx,
+            wy,
+            primaries,
+            rx,
+            ry,
+            gx,
+            gy,
+            bx,
+            by,
+            curve,
+            gamma,
+            intent,
+        ),
+        maker,
+        model,
+        out,
+    )
+}
+
+#[no_mangle]
+pub extern "C" fn merqyduk_write_xyb_device(
+    intent: u32,
+    maker: u32,
+    model: u32,
+    out: &mut [u8],
+) -> u32
+    ensures { λ r. ⌜ WritesCode maker model (xybFrom (intentFrom intent)) (now (out .entry)) (now (out .exit)) r ⌝ }
+{
+    write(encoding_codes::xyb_from_number(intent), maker, model, out)
 }
 
 // ---- the length of a profile, before there is memory for it
@@ -208,7 +299,10 @@ fn write_counted(code: EncodingCode, out: &mut [u8], rounded: &mut u32) -> u32
     let EncodingCode::Known(encoding) = code else {
         return color_encoding::UNKNOWN;
     };
-    answered(writer::maybe_create_profile(encoding, out), rounded)
+    answered(
+        writer::maybe_create_profile(encoding_plan::plain_encoding(encoding), out),
+        rounded,
+    )
 }
 
 fn length_counted(code: EncodingCode, capacity: usize, rounded: &mut u32) -> u32

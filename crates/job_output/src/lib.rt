@@ -154,7 +154,7 @@ pub fn profile(job: &[u8], i: usize, out: &mut [u8]) -> JobProfile
     match job::entry(job, i) {
         EntryAnswer::Is(entry) => {
             let encoding = entry.encoding;
-            from_writer(writer::maybe_create_profile(encoding, out))
+            from_writer(writer::maybe_create_profile(encoding_plan::plain_encoding(encoding), out))
         }
         EntryAnswer::Absent => JobProfile::Absent,
         EntryAnswer::Refused(k) => JobProfile::Refused(k),

@@ -19,14 +19,14 @@ use Rattle.profile.specs.Elements.{Slot, tagCount, table, start, body, bodySize
 use Rattle.profile.specs.ElementsLaws.{length-file}
 use Rattle.profile.specs.Plan.{Plan, kind, maxLetters}
 use Rattle.profile.specs.PlanLaws.{Nines, slots-shape, at-most}
-use Rattle.profile.specs.Layout.{header, elements, slots, withId, blanked, layout}
+use Rattle.profile.specs.Layout.{blankHeader, elements, slots, withId, blanked, layout}
 use Rattle.profile.specs.LayoutLaws.{length-header, plan-fours, length-layout, blanked-withId, layout-last}
 use Rattle.profile.specs.Shape.{shape, slotsOf, maxLength}
 use Rattle.layout.specs.Begun.{Begun}
 
 -- the header while the intent and the id are zero
 abbrev pub blank : Plan → ℕ → List ℕ
-blank p n = header (kind p) (record { size = n; intent = 0; id = zeros 16 })
+blank p n = blankHeader (kind p) n (p .maker) (p .model)
 
 -- what a caller that has room for the layout knows of its parts
 pub record Fits (p : Plan) (n : ℕ) : Type 0 where

@@ -58,7 +58,7 @@ xyb-size = (refl, refl)
 -- the elements of a plan are as long as its shape tells
 pub length-elements : (i : ℕ) (c : Content) → Nines c → length (body (elementsFor i c)) ≡ bodySize (slotsOf (shapeOf c))
 unfolding elements
-length-elements i c h = length-body (elementsFor i c) ∙ ap bodySize (slots-shape (record { intent = i; content = c }) h)
+length-elements i c h = length-body (elementsFor i c) ∙ ap bodySize (slots-shape (record { intent = i; maker = 0; model = 0; content = c }) h)
 
 -- ---- `desc`, `cprt` and `wtpt`
 

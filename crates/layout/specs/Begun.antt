@@ -3,10 +3,9 @@ use Prim.Native.Nat.{ℕ, _≤_}
 use mathlib.Core.Path.{_≡_}
 use mathlib.Core.List.{List, _++_}
 use lib.ListN.{length, take}
-use Rattle.buffer.specs.Bytes.{zeros}
 use Rattle.profile.specs.Elements.{start, table, fileLength}
 use Rattle.profile.specs.Plan.{Plan, kind}
-use Rattle.profile.specs.Layout.{idSize, header}
+use Rattle.profile.specs.Layout.{blankHeader}
 use Rattle.profile.specs.Shape.{shape, slotsOf}
 
 -- its header, with the intent and the id still zero, and its tag table are in front of l and end at `at`; the whole will have n bytes
@@ -14,4 +13,4 @@ pub record Begun (p : Plan) (l : List ℕ) (at n : ℕ) : Type 0 where
   pub place : at ≡ start (slotsOf (shape p))
   pub size : n ≡ fileLength (slotsOf (shape p))
   pub room : n ≤ length l
-  pub front : take at l ≡ header (kind p) (record { size = n; intent = 0; id = zeros idSize }) ++ table (slotsOf (shape p))
+  pub front : take at l ≡ blankHeader (kind p) n (p .maker) (p .model) ++ table (slotsOf (shape p))

@@ -33,7 +33,7 @@ pub fn put_plan(out: &mut [u8], plan: Numbers, text: &[u8], size: usize) -> usiz
 {
     let kind = plan.kind;
     let shape = profile::shape_of(plan, text.len());
-    create_icc_header(out, size as u32, kind);
+    create_icc_header(out, size as u32, kind, plan.maker, plan.model);
     let at = tag_table::put_table(out, shape);
     put_elements_and_id(out, at, size, plan, text);
     size

@@ -2,6 +2,8 @@
 use fields::DESC_LINE;
 use fields::GRAY_CURVE_LINE;
 use fields::red_line;
+use header::MAKER;
+use header::MODEL;
 use numbers::i32_from_bits;
 use profile::BT709_GAMMA;
 use profile::Cicp;
@@ -175,10 +177,9 @@ fn rgb_in(file: &[u8], shape: Shape, intent: u32) -> Numbers
     profile::rgb_numbers(intent, curve, cicp, chad_in(file), columns_in(file, red))
 }
 
-// The numbers of the one plan that a file of this shape can have.
-pub fn numbers_in(file: &[u8], shape: Shape, intent: u32) -> Numbers
-    requires { ⌜ (shape ≡ PlanIn.shapeIn (now file)) × (intent ≡ Table.varyingOf (now file) .intent) ⌝ }
-    ensures { λ r. ⌜ r ≡ numbersOf (PlanIn.planIn (now (file .entry))) ⌝ }
+// The numbers of a plan of any kind, without maker and model.
+fn content_in(file: &[u8], shape: Shape, intent: u32) -> Numbers
+    ensures { λ r. ⌜ r ≡ numbersFor intent (PlanIn.contentFrom (shape .kind) shape (PlanIn.elementIn (now (file .entry)))) ⌝ }
 {
     let kind = shape.kind;
     match kind {
@@ -186,6 +187,15 @@ pub fn numbers_in(file: &[u8], shape: Shape, intent: u32) -> Numbers
         Kind::Rgb => rgb_in(file, shape, intent),
         Kind::Xyb => profile::xyb_numbers(intent),
     }
+}
+
+// The numbers of the one plan that a file of this shape can have.
+pub fn numbers_in(file: &[u8], shape: Shape, intent: u32) -> Numbers
+    requires { ⌜ (shape ≡ PlanIn.shapeIn (now file)) × (intent ≡ Table.varyingOf (now file) .intent) ⌝ }
+    ensures { λ r. ⌜ r ≡ numbersOf (PlanIn.planIn (now (file .entry))) ⌝ }
+{
+    let plan = content_in(file, shape, intent);
+    profile::with_device(plan, read_u32_be(file, MAKER), read_u32_be(file, MODEL))
 }
 
 // The letters of a shape's free text.

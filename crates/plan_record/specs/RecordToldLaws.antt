@@ -43,6 +43,8 @@ pub record Held (r : Reading) : Type 0 where
   pub accepted : r .refusal ≡ 0
   pub kind : Word (r .kind)
   pub intent : Word (r .intent)
+  pub maker : Word (r .maker)
+  pub model : Word (r .model)
   pub curve : Word (r .curve)
   pub gamma : SFits w32 (r .gamma)
   pub cicp : Word (r .cicp)
@@ -79,26 +81,28 @@ module _ (r : Reading) (h : Held r) where
   all-words =
       more (h .kind)
       (more (h .intent)
+      (more (h .maker)
+      (more (h .model)
       (more (h .curve)
       (more (twosComplement32-lt (r .gamma) (h .gamma))
       (more (h .cicp)
       (more (twosComplement32-lt (r .«white_x») (h .white-x))
       (more (twosComplement32-lt (r .«white_z») (h .white-z))
-      (All-append (nine-words (h .chad)) (All-append (nine-words (h .columns)) (more (h .letters) none)))))))))
+      (All-append (nine-words (h .chad)) (All-append (nine-words (h .columns)) (more (h .letters) none)))))))))))
 
   -- the nine numbers of chad, those of the columns, and what follows them, in the numbers of the struct
-  chad-back : map signed32 (take 9 (drop 7 (recordNumbers r))) ≡ r .chad
+  chad-back : map signed32 (take 9 (drop 9 (recordNumbers r))) ≡ r .chad
   unfolding recordNumbers
   chad-back = ap (map signed32) (take-at chad _ 9 chad-nine) ∙ signeds-back (r .chad) (h .chad .fit)
 
-  columns-back : map signed32 (take 9 (drop 16 (recordNumbers r))) ≡ r .columns
+  columns-back : map signed32 (take 9 (drop 18 (recordNumbers r))) ≡ r .columns
   unfolding recordNumbers
   columns-back =
       ap (λ (l : List ℕ). map signed32 (take 9 l)) (drop-at chad _ 9 chad-nine)
       ∙ ap (map signed32) (take-at columns _ 9 columns-nine)
       ∙ signeds-back (r .columns) (h .columns .fit)
 
-  letters-back : getD (recordNumbers r) 25 0 ≡ r .letters
+  letters-back : getD (recordNumbers r) 27 0 ≡ r .letters
   unfolding recordNumbers
   letters-back =
       ap (λ (l : List ℕ). getD l 18 0) (sym (append-assoc chad columns (r .letters ∷ [])))
@@ -112,6 +116,8 @@ module _ (r : Reading) (h : Held r) where
         refusal = sym (h .accepted) j;
         kind = r .kind;
         intent = r .intent;
+        maker = r .maker;
+        model = r .model;
         curve = r .curve;
         gamma = signed32-twosComplement32 (r .gamma) (h .gamma) j;
         cicp = r .cicp;
@@ -227,6 +233,8 @@ plan-held p v =
       accepted = refl;
       kind = kind-word (numbersOf p .kind);
       intent = n .intent;
+      maker = v .maker;
+      model = v .model;
       curve = curve-word (numbersOf p .curve);
       gamma = n .gamma;
       cicp = n .cicp;

@@ -65,7 +65,13 @@ slots p = map slot (elements p)
 
 -- ---- the header (7.2)
 
--- where the intent and the id stand
+-- where maker, model, intent and id stand
+abbrev pub makerAt : ℕ
+makerAt = 48
+
+abbrev pub modelAt : ℕ
+modelAt = 52
+
 abbrev pub intentAt : ℕ
 intentAt = 64
 
@@ -78,6 +84,8 @@ idSize = 16
 -- what of a header its kind does not fix
 pub record Varying : Type 0 where
   pub size : ℕ
+  pub maker : ℕ
+  pub model : ℕ
   pub intent : ℕ
   pub id : List ℕ
 
@@ -96,16 +104,25 @@ abbrev pub front : Kind → List ℕ
 front k =
     join (Sig.jxl ∷ (4 ∷ 64 ∷ 0 ∷ 0 ∷ []) ∷ class k ∷ space k ∷ Sig.XYZ ∷ be16 2019 ∷ be16 12 ∷ be16 1 ∷ zeros 6 ∷ Sig.acsp ∷ Sig.APPL ∷ [])
 
--- flags; manufacturer, model and attributes; intent; PCS illuminant; creator; id; reserved
+-- flags; device manufacturer, model and attributes; intent; PCS illuminant; creator; id; reserved
 unfoldable pub header : Kind → Varying → List ℕ
 header k v =
-    join (be32 (v .size) ∷ front k ∷ zeros 4 ∷ zeros 16 ∷ be32 (v .intent) ∷ s15Fixed16s D50 ∷ Sig.jxl ∷ v .id ∷ zeros 28 ∷ [])
+    join
+    (be32 (v .size) ∷ front k ∷ zeros 4 ∷ be32 (v .maker) ∷ be32 (v .model) ∷ zeros 8 ∷ be32 (v .intent) ∷ s15Fixed16s D50 ∷ Sig.jxl ∷ v .id ∷ zeros 28 ∷ [])
+
+-- what the header of a plan says, in a file of n bytes
+abbrev pub varying : ℕ → List ℕ → Plan → Varying
+varying n id p = record { size = n; maker = p .maker; model = p .model; intent = p .intent; id = id }
+
+-- the header, while the intent and the id are zero, of a file of n bytes by this maker and of this model
+abbrev pub blankHeader : Kind → ℕ → ℕ → ℕ → List ℕ
+blankHeader k n a b = header k (record { size = n; maker = a; model = b; intent = 0; id = zeros idSize })
 
 -- ---- the file
 
 -- the plan's file under any id
 unfoldable pub withId : List ℕ → Plan → List ℕ
-withId id p = file (header (kind p) (record { size = fileLength (slots p); intent = p .intent; id = id })) (elements p)
+withId id p = file (header (kind p) (varying (fileLength (slots p)) id p)) (elements p)
 
 -- a file with bytes 44 to 47, 64 to 67 and 84 to 99 zero
 unfoldable pub blanked : List ℕ → List ℕ

@@ -1,7 +1,8 @@
--- Laws of the layout: how long it is, what its file is with the three fields blank, and that the intent and the id go in last.
+-- Laws of the layout: how long it is, what its file is with the three fields blank, that the intent and the id go in last, and what maker and model
+-- change.
 -- Assumes nothing.
 use Prim.Native.Nat.{ℕ, _+_, _≤_}
-use mathlib.Core.Path.{_≡_, refl, ap, sym, _∙_}
+use mathlib.Core.Path.{_≡_, refl, ap, ap₂, sym, _∙_}
 use mathlib.Core.List.{List, [], _++_, append-assoc, append-nil}
 use lib.ListN.{length, length-append, take, drop}
 use lib.Seq.{take-at, drop-at, drop-drop}
@@ -15,7 +16,7 @@ use Rattle.md5.specs.Md5.{md5}
 use Rattle.md5.specs.Md5Laws.{length-md5}
 use Rattle.profile.specs.Elements.{headerSize, file, fileLength, start, tagCount, bodySize, padding}
 use Rattle.profile.specs.ElementsLaws.{Fours, length-file}
-use Rattle.profile.specs.Plan.{Plan, kind, Good}
+use Rattle.profile.specs.Plan.{Plan, withDevice, kind, Good}
 use Rattle.profile.specs.declared.Kind.{Kind}
 use Rattle.profile.specs.declared.Kind.the-variants.{Gray, Rgb, Xyb}
 use Rattle.profile.specs.Signatures as Sig
@@ -27,6 +28,16 @@ use Rattle.profile.specs.PlanLaws.{Nines, good-nines, slots-shape, good-
 use Rattle.profile.specs.PlanLaws as PlanLaws
 
 -- ---- the header
+
+-- what it says, with another maker and model, with another intent, and under another id
+abbrev pub byDevice : ℕ → ℕ → Layout.Varying → Layout.Varying
+byDevice a b v = record { size = v .size; maker = a; model = b; intent = v .intent; id = v .id }
+
+abbrev pub withIntent : ℕ → Layout.Varying → Layout.Varying
+withIntent j v = record { size = v .size; maker = v .maker; model = v .model; intent = j; id = v .id }
+
+abbrev pub underId : List ℕ → Layout.Varying → Layout.Varying
+underId e v = record { size = v .size; maker = v .maker; model = v .model; intent = v .intent; id = e }
 
 length-front : (k : Kind) → length (Layout.front k) ≡ 40
 unfolding join
@@ -48,15 +59,23 @@ length-beforeFlags k n = rw (length-append, length-be32, length-front k) refl
 length-beforeId : length beforeId ≡ 16
 length-beforeId = simp (length-append, length-s15Fixed16s)
 
+-- what stands between the flags and the intent: maker, model and attributes
+device : ℕ → ℕ → List ℕ
+device a b = be32 a ++ (be32 b ++ zeros 8)
+
+length-sixteen : (a b : ℕ) → length (device a b) ≡ 16
+unfolding device
+length-sixteen a b = simp (length-append, length-be32)
+
 parts : (k : Kind) (v : Layout.Varying) (r : List ℕ)
-    → Layout.header k v ++ r ≡ beforeFlags k (v .size) ++ (zeros 4 ++ (zeros 16 ++ (be32 (v .intent) ++ (beforeId ++ (v .id ++ (zeros 28 ++ r))))))
-unfolding Layout.header join beforeFlags
+    → Layout.header k v ++ r ≡ beforeFlags k (v .size) ++ (zeros 4 ++ (device (v .maker) (v .model) ++ (be32 (v .intent) ++ (beforeId ++ (v .id ++ (zeros 28 ++ r))))))
+unfolding Layout.header join beforeFlags device
 parts k v r = simp (append-assoc, append-nil)
 
 pub length-header : (k : Kind) (v : Layout.Varying) → length (v .id) ≡ 16 → length (Layout.header k v) ≡ headerSize
 length-header k v h =
     ap length (sym (append-nil (Layout.header k v)) ∙ parts k v [])
-    ∙ simp (length-append, length-beforeFlags, length-be32, length-s15Fixed16s, h)
+    ∙ simp (length-append, length-beforeFlags, length-sixteen, length-be32, length-s15Fixed16s, h)
 
 past-two : (a b r : List ℕ) (n m : ℕ) → length a ≡ n → length b ≡ m → drop (n + m) (a ++ (b ++ r)) ≡ r
 past-two a b r n m la lb = sym (drop-drop m n (a ++ (b ++ r))) ∙ ap (drop m) (drop-at a (b ++ r) n la) ∙ drop-at b r m lb
@@ -73,31 +92,42 @@ blank a b c d e g r la lb lc ld le lg =
     rw (at-c, at-e, at-r, take-at a (b ++ (c ++ (d ++ (e ++ (g ++ r))))) 44 la, take-at c (d ++ (e ++ (g ++ r))) 16 lc, take-at e (g ++ r) 16 le) (simp append-nil)
 
 header-blanked : (k : Kind) (v : Layout.Varying) (r : List ℕ) → length (v .id) ≡ 16
-    → Layout.blanked (Layout.header k v ++ r) ≡ Layout.header k (record { size = v .size; intent = 0; id = zeros 16 }) ++ r
+    → Layout.blanked (Layout.header k v ++ r) ≡ Layout.blankHeader k (v .size) (v .maker) (v .model) ++ r
 header-blanked k v r h =
     ap Layout.blanked (parts k v r)
-    ∙ blank (beforeFlags k (v .size)) (zeros 4) (zeros 16) (be32 (v .intent)) beforeId (v .id) _ (length-beforeFlags k (v .size)) refl refl (length-be32 (v .intent)) length-beforeId h
-    ∙ sym (parts k (record { size = v .size; intent = 0; id = zeros 16 }) r ∙ ap (λ (z : List ℕ). beforeFlags k (v .size) ++ (zeros 4 ++ (zeros 16 ++ (z ++ (beforeId ++ (zeros 16 ++ (zeros 28 ++ r))))))) be32-zero)
+    ∙ blank (beforeFlags k (v .size)) (zeros 4) (device (v .maker) (v .model)) (be32 (v .intent)) beforeId (v .id) _ (length-beforeFlags k (v .size)) refl (length-sixteen (v .maker) (v .model)) (length-be32 (v .intent)) length-beforeId h
+    ∙ sym (parts k (underId (zeros 16) (withIntent 0 v)) r ∙ ap (λ (z : List ℕ). beforeFlags k (v .size) ++ (zeros 4 ++ (device (v .maker) (v .model) ++ (z ++ (beforeId ++ (zeros 16 ++ (zeros 28 ++ r))))))) be32-zero)
 
-pub header-put-intent : (k : Kind) (n i j : ℕ) (d r : List ℕ)
-    → put (Layout.header k (record { size = n; intent = i; id = d }) ++ r) 64 (be32 j) ≡ Layout.header k (record { size = n; intent = j; id = d }) ++ r
-header-put-intent k n i j d r =
-    let before : List ℕ = beforeFlags k n ++ (zeros 4 ++ zeros 16) in
-    let rest : List ℕ = beforeId ++ (d ++ (zeros 28 ++ r)) in
-    let up-to : (m : ℕ) → Layout.header k (record { size = n; intent = m; id = d }) ++ r ≡ before ++ (be32 m ++ rest) =
-    λ m. parts k (record { size = n; intent = m; id = d }) r ∙ simp append-assoc in
-    ap (λ (l : List ℕ). put l 64 (be32 j)) (up-to i)
-    ∙ put-over before (be32 i) rest (be32 j) 64 (rw (length-append, length-beforeFlags k n) refl) (length-be32 j ∙ sym (length-be32 i))
+-- ---- a header with one of its fields put anew, and what follows it
+
+pub header-put-device : (k : Kind) (v : Layout.Varying) (a b : ℕ) (r : List ℕ)
+    → put (Layout.header k v ++ r) 48 (be32 a ++ be32 b) ≡ Layout.header k (byDevice a b v) ++ r
+header-put-device k v a b r =
+    let before : List ℕ = beforeFlags k (v .size) ++ zeros 4 in
+    let rest : List ℕ = zeros 8 ++ (be32 (v .intent) ++ (beforeId ++ (v .id ++ (zeros 28 ++ r)))) in
+    let up-to : (m n : ℕ) → Layout.header k (byDevice m n v) ++ r ≡ before ++ ((be32 m ++ be32 n) ++ rest) =
+    λ m n. parts k (byDevice m n v) r ∙ (unfold device in simp append-assoc) in
+    ap (λ (l : List ℕ). put l 48 (be32 a ++ be32 b)) (up-to (v .maker) (v .model))
+    ∙ put-over before (be32 (v .maker) ++ be32 (v .model)) rest (be32 a ++ be32 b) 48 (rw (length-append, length-beforeFlags k (v .size)) refl) (simp (length-append, length-be32))
+    ∙ sym (up-to a b)
+
+pub header-put-intent : (k : Kind) (v : Layout.Varying) (j : ℕ) (r : List ℕ)
+    → put (Layout.header k v ++ r) 64 (be32 j) ≡ Layout.header k (withIntent j v) ++ r
+header-put-intent k v j r =
+    let before : List ℕ = beforeFlags k (v .size) ++ (zeros 4 ++ device (v .maker) (v .model)) in
+    let rest : List ℕ = beforeId ++ (v .id ++ (zeros 28 ++ r)) in
+    let up-to : (m : ℕ) → Layout.header k (withIntent m v) ++ r ≡ before ++ (be32 m ++ rest) = λ m. parts k (withIntent m v) r ∙ simp append-assoc in
+    ap (λ (l : List ℕ). put l 64 (be32 j)) (up-to (v .intent))
+    ∙ put-over before (be32 (v .intent)) rest (be32 j) 64 (simp (length-append, length-beforeFlags, length-sixteen)) (length-be32 j ∙ sym (length-be32 (v .intent)))
     ∙ sym (up-to j)
 
-pub header-put-id : (k : Kind) (n i : ℕ) (d e r : List ℕ) → length d ≡ 16 → length e ≡ 16
-    → put (Layout.header k (record { size = n; intent = i; id = d }) ++ r) 84 e ≡ Layout.header k (record { size = n; intent = i; id = e }) ++ r
-header-put-id k n i d e r h g =
-    let before : List ℕ = beforeFlags k n ++ (zeros 4 ++ (zeros 16 ++ (be32 i ++ beforeId))) in
-    let up-to : (m : List ℕ) → Layout.header k (record { size = n; intent = i; id = m }) ++ r ≡ before ++ (m ++ (zeros 28 ++ r)) =
-    λ m. parts k (record { size = n; intent = i; id = m }) r ∙ simp append-assoc in
-    ap (λ (l : List ℕ). put l 84 e) (up-to d)
-    ∙ put-over before d (zeros 28 ++ r) e 84 (simp (length-append, length-beforeFlags, length-be32, length-s15Fixed16s)) (g ∙ sym h)
+pub header-put-id : (k : Kind) (v : Layout.Varying) (e r : List ℕ) → length (v .id) ≡ 16 → length e ≡ 16
+    → put (Layout.header k v ++ r) 84 e ≡ Layout.header k (underId e v) ++ r
+header-put-id k v e r h g =
+    let before : List ℕ = beforeFlags k (v .size) ++ (zeros 4 ++ (device (v .maker) (v .model) ++ (be32 (v .intent) ++ beforeId))) in
+    let up-to : (m : List ℕ) → Layout.header k (underId m v) ++ r ≡ before ++ (m ++ (zeros 28 ++ r)) = λ m. parts k (underId m v) r ∙ simp append-assoc in
+    ap (λ (l : List ℕ). put l 84 e) (up-to (v .id))
+    ∙ put-over before (v .id) (zeros 28 ++ r) e 84 (simp (length-append, length-beforeFlags, length-sixteen, length-be32, length-s15Fixed16s)) (g ∙ sym h)
     ∙ sym (up-to e)
 
 -- ---- the length of a plan's file
@@ -126,7 +156,7 @@ layout-bounds N p g =
 -- ---- the file with its three fields blank
 
 pub blanked-withId : (p : Plan) (id : List ℕ) → length id ≡ 16
-    → Layout.blanked (Layout.withId id p) ≡ file (Layout.header (kind p) (record { size = fileLength (Layout.slots p); intent = 0; id = zeros 16 })) (Layout.elements p)
+    → Layout.blanked (Layout.withId id p) ≡ file (Layout.blankHeader (kind p) (fileLength (Layout.slots p)) (p .maker) (p .model)) (Layout.elements p)
 unfolding Layout.withId file
 blanked-withId p id h = header-blanked (kind p) _ _ h
 
@@ -135,9 +165,36 @@ pub layout-last : (p : Plan) → let f = Layout.blanked (Layout.withId (zeros 16
 unfolding Layout.layout Layout.profileId Layout.withId file
 layout-last p =
     let k = kind p in
-    let n = fileLength (Layout.slots p) in
+    let v = Layout.varying (fileLength (Layout.slots p)) (zeros 16) p in
     let blank = blanked-withId p (zeros 16) refl in
     let id = md5 (Layout.blanked (Layout.withId (zeros 16) p)) in
     ap (λ (f : List ℕ). put (put f 64 (be32 (p .intent))) 84 id) blank
-    ∙ ap (λ (f : List ℕ). put f 84 id) (header-put-intent k n 0 (p .intent) (zeros 16) _)
-    ∙ header-put-id k n (p .intent) (zeros 16) id _ refl (length-md5 _)
+    ∙ ap (λ (f : List ℕ). put f 84 id) (header-put-intent k (withIntent 0 v) (p .intent) _)
+    ∙ header-put-id k v id _ refl (length-md5 _)
+
+-- ---- maker and model
+
+-- the id of a plan's file does not depend on the one that stands in it
+pub any-id : (p : Plan) (d e : List ℕ) → length d ≡ 16 → length e ≡ 16 → Layout.profileId (Layout.withId d p) ≡ Layout.profileId (Layout.withId e p)
+unfolding Layout.profileId
+any-id p d e h g = ap md5 (blanked-withId p d h ∙ sym (blanked-withId p e g))
+
+-- maker and model do not change the length
+pub length-device : (p : Plan) (a b : ℕ) → length (Layout.layout (withDevice a b p)) ≡ length (Layout.layout p)
+unfolding Layout.layout Layout.withId Layout.elements file
+length-device p a b = simp (length-append, length-header, length-id)
+
+-- another maker and model: these eight bytes are put anew, and then the id of that file
+pub layout-device : (p : Plan) (a b : ℕ) → let f = put (Layout.layout p) 48 (be32 a ++ be32 b) in
+    Layout.layout (withDevice a b p) ≡ put f 84 (Layout.profileId f)
+unfolding Layout.layout Layout.withId Layout.elements file
+layout-device p a b =
+    let k = kind p in
+    let n = fileLength (Layout.slots p) in
+    let q = withDevice a b p in
+    let id = Layout.profileId (Layout.withId (zeros 16) p) in
+    let new = Layout.profileId (Layout.withId (zeros 16) q) in
+    let f = put (Layout.layout p) 48 (be32 a ++ be32 b) in
+    let here : f ≡ Layout.withId id q = header-put-device k (Layout.varying n id p) a b _ in
+    let same : Layout.profileId f ≡ new = ap Layout.profileId here ∙ any-id q id (zeros 16) (length-id _) refl in
+    sym (ap₂ (λ (x y : List ℕ). put x 84 y) here same ∙ header-put-id k (Layout.varying n id q) new _ (length-id _) (length-id _))

@@ -21,25 +21,41 @@ contentBy Rgb p t = rgb (record { text = t; curve = p .curve; chad = p .chad; co
 contentBy Xyb p t = xyb
 
 abbrev pub planOf : Numbers → List ℕ → Plan
-planOf p t = record { intent = p .intent; content = contentBy (p .kind) p t }
+planOf p t = record { intent = p .intent; maker = p .maker; model = p .model; content = contentBy (p .kind) p t }
 
--- ---- the numbers and the text of a plan
+-- the numbers with this maker and this model
+abbrev pub numbersWith : ℕ → ℕ → Numbers → Numbers
+numbersWith a b p =
+    record {
+      kind = p .kind;
+      intent = p .intent;
+      maker = a;
+      model = b;
+      curve = p .curve;
+      cicp = p .cicp;
+      «white_x» = p .«white_x»;
+      «white_z» = p .«white_z»;
+      chad = p .chad;
+      columns = p .columns;
+    }
+
+-- ---- the numbers and the text of a plan, at first without maker and model
 
 abbrev nineZeros : List ℤ
 nineZeros = replicate 9 (pos 0)
 
 abbrev pub grayNumbers : ℕ → Curve → ℤ → ℤ → Numbers
 grayNumbers i c x z =
-    record { kind = Gray; intent = i; curve = c; cicp = Absent; «white_x» = x; «white_z» = z; chad = nineZeros; columns = nineZeros }
+    record { kind = Gray; intent = i; maker = 0; model = 0; curve = c; cicp = Absent; «white_x» = x; «white_z» = z; chad = nineZeros; columns = nineZeros }
 
 abbrev pub rgbNumbers : ℕ → Curve → Cicp → List ℤ → List ℤ → Numbers
 rgbNumbers i c v m k =
-    record { kind = Rgb; intent = i; curve = c; cicp = v; «white_x» = pos 0; «white_z» = pos 0; chad = m; columns = k }
+    record { kind = Rgb; intent = i; maker = 0; model = 0; curve = c; cicp = v; «white_x» = pos 0; «white_z» = pos 0; chad = m; columns = k }
 
 -- the first curve stands for none
 abbrev pub xybNumbers : ℕ → Numbers
 xybNumbers i =
-    record { kind = Xyb; intent = i; curve = Named BT709; cicp = Absent; «white_x» = pos 0; «white_z» = pos 0; chad = nineZeros; columns = nineZeros }
+    record { kind = Xyb; intent = i; maker = 0; model = 0; curve = Named BT709; cicp = Absent; «white_x» = pos 0; «white_z» = pos 0; chad = nineZeros; columns = nineZeros }
 
 abbrev pub numbersFor : ℕ → Content → Numbers
 numbersFor i (gray g) = grayNumbers i (g .curve) (g .white-x) (g .white-z)
@@ -47,7 +63,7 @@ numbersFor i (rgb g) = rgbNumbers i (g .curve) (g .cicp) (g .chad) (g .columns)
 numbersFor i xyb = xybNumbers i
 
 abbrev pub numbersOf : Plan → Numbers
-numbersOf p = numbersFor (p .intent) (p .content)
+numbersOf p = numbersWith (p .maker) (p .model) (numbersFor (p .intent) (p .content))
 
 -- XYB has no free text
 abbrev pub textFor : Content → List ℕ

@@ -1,6 +1,7 @@
--- A plan (the plan of 01): a kind, an intent and what a profile of that kind holds, in whole numbers; and which plans there are.
+-- A plan (the plan of 01): a kind, an intent, maker and model (02, order 6) and what a profile of that kind holds, in whole numbers; and which plans
+-- there are.
 -- Assumes nothing.
-use Prim.Native.Nat.{ℕ, _≤_}
+use Prim.Native.Nat.{ℕ, _^_, _≤_, _<_}
 use mathlib.Core.Path.{_≡_}
 use mathlib.Core.Logic.{_⊎_}
 use mathlib.Core.List.{List}
@@ -42,7 +43,14 @@ pub data Content : Type 0 where
 
 pub record Plan : Type 0 where
   pub intent : ℕ
+  -- the device's manufacturer and its model (7.2.12, 7.2.13): four bytes each as one number, the first byte the most significant
+  pub maker : ℕ
+  pub model : ℕ
   pub content : Content
+
+-- the plan with this maker and this model
+abbrev pub withDevice : ℕ → ℕ → Plan → Plan
+withDevice a b p = record { intent = p .intent; maker = a; model = b; content = p .content }
 
 -- ---- the three kinds
 
@@ -105,8 +113,14 @@ GoodIntent Gray i = i ≤ 3
 GoodIntent Rgb i = i ≤ 3
 GoodIntent Xyb i = i ≡ 0
 
+-- any four bytes
+abbrev pub FourBytes : ℕ → Type 0
+FourBytes n = n < 2 ^ 32
+
 pub record Good (N : ℤ → Type 0) (p : Plan) : Type 0 where
   pub intent : GoodIntent (kind p) (p .intent)
+  pub maker : FourBytes (p .maker)
+  pub model : FourBytes (p .model)
   pub content : GoodContent N (p .content)
 
 -- each number of a plan lies within ±2147483264, the range of fixed numbers

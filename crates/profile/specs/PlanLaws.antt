@@ -13,8 +13,8 @@ use Rattle.profile.specs.Signatures as Sig
 use Rattle.profile.specs.Elements.{Element, slot, padding, start, bodySize, tagCount, fileLength}
 use Rattle.profile.specs.ElementsLaws.{Four, Fours}
 use Rattle.profile.specs.Plan
-use Rattle.profile.specs.Plan.{gray, rgb, xyb, maxLetters}
-use Rattle.profile.specs.Numbers.{contentBy, planOf, numbersFor, numbersOf, textFor, textOf}
+use Rattle.profile.specs.Plan.{gray, rgb, xyb, withDevice, maxLetters}
+use Rattle.profile.specs.Numbers.{contentBy, planOf, numbersWith, numbersFor, numbersOf, textFor, textOf}
 use Rattle.profile.specs.TagTypesLaws.{length-mluc, length-xyz, length-sf32, length-curve, length-cicp, length-a2b0, length-b2a0}
 use Rattle.profile.specs.Layout as Layout
 use Rattle.profile.specs.Shape
@@ -65,10 +65,19 @@ slots-shape p h = go (p .intent) (p .content) h
 pub plan-of-numbers : (p : Plan.Plan) → planOf (numbersOf p) (textOf p) ≡ p
 plan-of-numbers p = go (p .intent) (p .content)
   where
-    go : (i : ℕ) (c : Plan.Content) → planOf (numbersFor i c) (textFor c) ≡ record { intent = i; content = c }
+    go : (i : ℕ) (c : Plan.Content) → planOf (numbersWith (p .maker) (p .model) (numbersFor i c)) (textFor c) ≡ record { intent = i; maker = p .maker; model = p .model; content = c }
     go i (gray g) = refl
     go i (rgb g) = refl
     go i xyb = refl
+
+-- maker and model in the numbers are those of the plan
+pub plan-with : (a b : ℕ) (p : Numbers) (t : List ℕ) → planOf (numbersWith a b p) t ≡ withDevice a b (planOf p t)
+plan-with a b p t = ap (λ c. record { intent = p .intent; maker = a; model = b; content = c }) (go (p .kind))
+  where
+    go : (k : Kind) → contentBy k (numbersWith a b p) t ≡ contentBy k p t
+    go Gray = refl
+    go Rgb = refl
+    go Xyb = refl
 
 pub kind-by : (p : Numbers) (t : List ℕ) → Plan.kind (planOf p t) ≡ p .kind
 kind-by p t = go (p .kind)

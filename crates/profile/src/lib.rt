@@ -63,10 +63,13 @@ pub enum Cicp {
     Primaries(u8),
 }
 
-// A plan but for its text, which is lent beside it. Where a kind has no such number the field is zero, or the first curve.
+// A plan but for its text, which is lent beside it. Where a kind has no such number the field is zero, or the first curve. Maker and model are four
+// bytes each, the first the most significant.
 pub struct Numbers {
     pub kind: Kind,
     pub intent: u32,
+    pub maker: u32,
+    pub model: u32,
     pub curve: Curve,
     pub cicp: Cicp,
     pub white_x: i32,
@@ -75,12 +78,16 @@ pub struct Numbers {
     pub columns: [i32; 9],
 }
 
+// ---- the numbers of each kind, at first without maker and model
+
 pub fn gray_numbers(intent: u32, curve: Curve, white_x: i32, white_z: i32) -> Numbers
     ensures { λ r. ⌜ r ≡ Plans.grayNumbers intent curve «white_x» «white_z» ⌝ }
 {
     Numbers {
         kind: Kind::Gray,
         intent,
+        maker: 0,
+        model: 0,
         curve,
         cicp: Cicp::Absent,
         white_x,
@@ -102,6 +109,8 @@ pub fn rgb_numbers(
     Numbers {
         kind: Kind::Rgb,
         intent,
+        maker: 0,
+        model: 0,
         curve,
         cicp,
         white_x: 0,
@@ -117,6 +126,8 @@ pub fn xyb_numbers(intent: u32) -> Numbers
     Numbers {
         kind: Kind::Xyb,
         intent,
+        maker: 0,
+        model: 0,
         curve: Curve::Named(CurveName::BT709),
         cicp: Cicp::Absent,
         white_x: 0,
@@ -124,6 +135,16 @@ pub fn xyb_numbers(intent: u32) -> Numbers
         chad: [0; 9],
         columns: [0; 9],
     }
+}
+
+// The numbers with this maker and this model.
+pub fn with_device(plan: Numbers, maker: u32, model: u32) -> Numbers
+    ensures { λ r. ⌜ r ≡ Plans.numbersWith maker model plan ⌝ }
+{
+    let mut r = plan;
+    r.maker = maker;
+    r.model = model;
+    r
 }
 
 fn is_gamma(curve: Curve) -> bool

@@ -1,5 +1,5 @@
 -- That two definitions of the reader say what 01 says, for lists of bytes. Assumes nothing.
-use Prim.Native.Nat.{ℕ, _≤_}
+use Prim.Native.Nat.{ℕ, _+_, _≤_}
 use mathlib.Core.Path.{_≡_}
 use mathlib.Core.List.{List, [], _∷_}
 use native.Mathlib.Omega.{arith}
@@ -24,11 +24,14 @@ any-four a b c d ha hb hc hd =
     let bytes = byte-at l (more ha (more hb (more hc (more hd none)))) in
     (signed32 (word32 l), number-fits l bytes, number-read l bytes (omega arith))
 
--- 23, "another header byte differs (size, intent, id aside)": the header that a file is held against has the file's own bytes there
+-- 23, "another header byte differs (size, intent, id aside)", and since order 6 of 02 maker and model aside: the header that a file is held against has the file's own bytes there
 pub header-literal : (k : Kind) (f : List ℕ) → All Byte f → 132 ≤ length f
     → header k (varyingOf f)
-    ≡ join (take 4 f ∷ front k ∷ zeros 4 ∷ zeros 16 ∷ take 4 (drop 64 f) ∷ s15Fixed16s D50 ∷ Sig.jxl ∷ take 16 (drop 84 f) ∷ zeros 28 ∷ [])
+    ≡ join (take 4 f ∷ front k ∷ zeros 4 ∷ take 4 (drop 48 f) ∷ take 4 (drop 52 f) ∷ zeros 8 ∷ take 4 (drop 64 f) ∷ s15Fixed16s D50 ∷ Sig.jxl ∷ take 16 (drop 84 f) ∷ zeros 28 ∷ [])
 unfolding header varyingOf
 header-literal k f b h =
     let bytes = byte-at f b in
-    rw (be32-front f bytes (omega arith), be32-front (drop 64 f) (bytes-drop 64 f bytes) (simp length-drop (omega arith)))
+    let four : (n : ℕ) → n + 4 ≤ length f → be32 (word32 (drop n f)) ≡ take 4 (drop n f) =
+    λ n g. be32-front (drop n f) (bytes-drop n f bytes) (simp length-drop (omega arith))
+    in
+    rw (be32-front f bytes (omega arith), four 48 (omega arith), four 52 (omega arith), four 64 (omega arith))

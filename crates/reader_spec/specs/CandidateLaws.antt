@@ -19,7 +19,7 @@ use Rattle.words.specs.WordsLaws.{bytes-drop, number-fits}
 use Rattle.profile.specs.Elements.{Entry, start, table, body, bodySize, fileLength, entries, padding}
 use Rattle.profile.specs.Plan.{Plan, Content, gray, rgb, xyb, kind, maxLetters, GoodText, GoodCicp, GoodContent, Wide}
 use Rattle.profile.specs.PlanLaws.{plan-of-numbers, good-nines, slots-shape}
-use Rattle.profile.specs.Numbers.{planOf, numbersFor, textFor}
+use Rattle.profile.specs.Numbers.{planOf, numbersWith, numbersFor, textFor}
 use Rattle.profile.specs.Layout.{elements, slots, profileId, layout}
 use Rattle.profile.specs.LayoutLaws.{length-id}
 use Rattle.profile.specs.Shape.{isGamma, hasCicp, shapeOf, shape, slotsFor, slotsOf, mlucSize, NotBoth}
@@ -33,7 +33,7 @@ use Rattle.reader_spec.specs.PlanIn
 use Rattle.reader_spec.specs.PlanInLaws.{length-low, content-kind, shape-kind}
 use Rattle.reader_spec.specs.FitsLaws.{Bytes, numbers-fit, curve-fits}
 use Rattle.reader_spec.specs.FileLaws.{fours, small, drop-withId}
-use Rattle.reader_spec.specs.RefusalListLaws.{regions}
+use Rattle.reader_spec.specs.RefusalListLaws.{header-device, regions}
 use Rattle.reader_spec.specs.Decide.{BodyIs}
 use Rattle.reader_spec.specs.ShapeLaws.{entries-if}
 use Rattle.reader_spec.specs.Steps.{Headed, Tabled, Candidate}
@@ -105,18 +105,18 @@ good-text n t p q h e = record { some-letter = rw h p; short = rw h q; ascii = a
 
 module _ (s : Shape) (e : ℕ → List ℕ) (bytes : (i : ℕ) → Bytes (e i)) (some-letter : 1 ≤ s .letters) (short : s .letters ≤ maxLetters)
     (pair : NotBoth (s .cicp) (s .gamma)) where
-  good-content : (k : Kind) (i : ℕ) → Letters k s e
-      → lettersAndCicpGood (numbersFor i (PlanIn.contentFrom k s e)) (textFor (PlanIn.contentFrom k s e)) ≡ true
+  good-content : (k : Kind) (a b i : ℕ) → Letters k s e
+      → lettersAndCicpGood (numbersWith a b (numbersFor i (PlanIn.contentFrom k s e))) (textFor (PlanIn.contentFrom k s e)) ≡ true
       → GoodContent (SFits w32) (PlanIn.contentFrom k s e)
   unfolding PlanIn.contentFrom PlanIn.numbersFrom lettersAndCicpGood
-  good-content Gray i n h =
+  good-content Gray a b i n h =
       record {
         text = good-text (s .letters) _ some-letter short n (both-left (isAscii (PlanIn.textIn (s .letters) (e 0))) _ h);
         curve = curve-fits (s .gamma) (e 3) (bytes 3);
         white-x = number-fits (drop 8 (e 2)) (bytes-drop 8 (e 2) (bytes 2));
         white-z = number-fits (drop 16 (e 2)) (bytes-drop 16 (e 2) (bytes 2));
       }
-  good-content Rgb i n h =
+  good-content Rgb a b i n h =
       let red : ℕ = PlanIn.redLine (s .cicp) in
       let column : (i : ℕ) → All (SFits w32) (PlanIn.numbersIn 3 (e i)) = λ i. numbers-fit 3 (drop 8 (e i)) (bytes-drop 8 (e i) (bytes i)) in
       record {
@@ -128,13 +128,13 @@ module _ (s : Shape) (e : ℕ → List ℕ) (bytes : (i : ℕ) → Bytes (e i)) 
         columns = All-append (column red) (All-append (column (red + 1)) (column (red + 2)));
         cicp = good-cicp (s .gamma) (s .cicp) _ (e 4) pair (both-right (isAscii (PlanIn.textIn (s .letters) (e 0))) _ h);
       }
-  good-content Xyb i n h = tt
+  good-content Xyb a b i n h = tt
 
-content-good : (N : ℤ → Type 0) (i : ℕ) (c : Content) → GoodContent N c → lettersAndCicpGood (numbersFor i c) (textFor c) ≡ true
+content-good : (N : ℤ → Type 0) (a b i : ℕ) (c : Content) → GoodContent N c → lettersAndCicpGood (numbersWith a b (numbersFor i c)) (textFor c) ≡ true
 unfolding lettersAndCicpGood
-content-good N i (gray g) h = both (ascii-of (h .text .ascii)) refl
-content-good N i (rgb g) h = both (ascii-of (h .text .ascii)) (cicp-of (g .curve) (g .cicp) (h .cicp))
-content-good N i xyb h = unfold isAscii in refl
+content-good N a b i (gray g) h = both (ascii-of (h .text .ascii)) refl
+content-good N a b i (rgb g) h = both (ascii-of (h .text .ascii)) (cicp-of (g .curve) (g .cicp) (h .cicp))
+content-good N a b i xyb h = unfold isAscii in refl
 
 -- ---- a file against the layout of its candidate
 
@@ -165,7 +165,7 @@ module _ (f : List ℕ) (p : Numbers) (t : List ℕ) (c : Candidate f p t) where
   -- a wrong letter or `cicp` value
   pub wrong-letters : lettersAndCicpGood p t ≡ false → ¬ (BodyIs plan f)
   wrong-letters e b =
-      let good : lettersAndCicpGood p t ≡ true = rw (c .numbers, c .text) (content-good (SFits w32) (plan .intent) (plan .content) (b .good)) in
+      let good : lettersAndCicpGood p t ≡ true = rw (c .numbers, c .text) (content-good (SFits w32) (plan .maker) (plan .model) (plan .intent) (plan .content) (b .good)) in
       true≢false (sym good ∙ e)
 
   module _ (bytes : Bytes f) (good : lettersAndCicpGood p t ≡ true) where
@@ -175,7 +175,7 @@ module _ (f : List ℕ) (p : Numbers) (t : List ℕ) (c : Candidate f p t) where
         let s : Shape = PlanIn.shapeIn f in
         let shape-good = c .tabled .table-is .good in
         good-content s (PlanIn.elementIn f) (λ i. bytes-drop (lineIn f i .offset) f bytes) (shape-good .some-letter) (shape-good .short) (shape-good .pair)
-        (s .kind) (plan .intent) (letters-are s f (c .tabled)) (rw (c .numbers, c .text) at good)
+        (s .kind) (plan .maker) (plan .model) (plan .intent) (letters-are s f (c .tabled)) (rw (c .numbers, c .text) at good)
 
     kind-of : kind plan ≡ PlanIn.shapeIn f .kind
     unfolding PlanIn.planIn
@@ -188,8 +188,18 @@ module _ (f : List ℕ) (p : Numbers) (t : List ℕ) (c : Candidate f p t) where
     unfolding PlanIn.planIn
     intent-is = refl
 
+    maker-is : varyingOf f .maker ≡ plan .maker
+    unfolding PlanIn.planIn
+    maker-is = refl
+
+    model-is : varyingOf f .model ≡ plan .model
+    unfolding PlanIn.planIn
+    model-is = refl
+
     wide : Wide plan
-    wide = record { intent = rw (← intent-is) (headed .intent); content = content }
+    wide =
+        let fits = header-device f (record { long = headed .sized .long }) (kind plan) (headed .header) in
+        record { intent = rw (← intent-is) (headed .intent); maker = rw (← maker-is) (fits .0); model = rw (← model-is) (fits .1); content = content }
 
     pub same-slots : slots plan ≡ slotsOf (PlanIn.shapeIn f)
     same-slots = slots-shape plan (good-nines (SFits w32) (plan .content) content) ∙ ap slotsOf shape-is
@@ -215,4 +225,4 @@ module _ (f : List ℕ) (p : Numbers) (t : List ℕ) (c : Candidate f p t) where
     pub id-laid : BodyIs plan f → take 16 (drop 84 (layout plan)) ≡ profileId f
     unfolding varyingOf
     id-laid b =
-        laid-id (kind plan) f plan headed wide (record { header = headed .header; intent = intent-is; table = b .table; body = b .body })
+        laid-id (kind plan) f plan headed wide (record { header = headed .header; maker = maker-is; model = model-is; intent = intent-is; table = b .table; body = b .body })

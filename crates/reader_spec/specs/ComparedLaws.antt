@@ -66,13 +66,13 @@ module _ (f : List ℕ) (p : Numbers) (t : List ℕ) (c : Candidate f p t) where
       pub by-range : numbersInRange p ≡ false → number c27 ≡ refusalNumber (fromBody f)
       by-range e =
           sym (ap refusalNumber (to-range ∙ range-27 (planIn f) f refl (λ h.
-          true≢false (sym (content-in-range (planIn f .intent) (planIn f .content) h) ∙ sym (ap numbersInRange (c .numbers)) ∙ e))))
+          true≢false (sym (content-in-range (planIn f .maker) (planIn f .model) (planIn f .intent) (planIn f .content) h) ∙ sym (ap numbersInRange (c .numbers)) ∙ e))))
 
       module _ (in-range : numbersInRange p ≡ true) where
         to-id : fromBody f ≡ fromId f
         to-id =
             let h : numbersInRange (numbersOf (planIn f)) ≡ true = rw (c .numbers) at in-range in
-            to-range ∙ range-id (planIn f) f refl (in-range-content (SFits w32) (planIn f .intent) (planIn f .content) (content f p t c bytes good) h)
+            to-range ∙ range-id (planIn f) f refl (in-range-content (SFits w32) (planIn f .maker) (planIn f .model) (planIn f .intent) (planIn f .content) (content f p t c bytes good) h)
 
         laid : take 16 (drop 84 (layout (planOf p t))) ≡ profileId f
         laid = ap (λ q. take 16 (drop 84 (layout q))) (plan-is f p t c) ∙ id-laid f p t c bytes good body

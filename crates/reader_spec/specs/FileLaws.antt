@@ -9,13 +9,13 @@ use lib.Seq.{take-at, drop-drop}
 use mir.Syntax.{w32}
 use mir.Val.{SFits}
 use Rattle.words.specs.Words.{be32, word32}
-use Rattle.words.specs.WordsLaws.{length-be16, length-be32, word32-be32}
+use Rattle.words.specs.WordsLaws.{length-be16, length-be32, word32-be32, word32-below}
 use Rattle.buffer.specs.Bytes.{zeros, same}
 use Rattle.buffer.specs.All.{All, none, more}
 use Rattle.md5.specs.Md5.{md5}
 use Rattle.profile.specs.Elements.{start, tagCount, table, entries, body, file, fileLength}
 use Rattle.profile.specs.ElementsLaws.{Fours}
-use Rattle.profile.specs.Plan.{Plan, Content, gray, rgb, xyb, kind, GoodCurve, GoodContent, GoodIntent, Good, InRange, Valid, Wide}
+use Rattle.profile.specs.Plan.{Plan, Content, gray, rgb, xyb, kind, FourBytes, GoodCurve, GoodContent, GoodIntent, Good, InRange, Valid, Wide}
 use Rattle.profile.specs.declared.Kind.{Kind}
 use Rattle.profile.specs.declared.Kind.the-variants.{Gray, Rgb, Xyb}
 use Rattle.profile.specs.PlanLaws.{good-nines, slots-shape}
@@ -24,7 +24,7 @@ use Rattle.profile.specs.declared.Shape.{Shape}
 use Rattle.profile.specs.Signatures as Sig
 use Rattle.profile.specs.TagTypes.{join, s15Fixed16s}
 use Rattle.profile.specs.TagTypesLaws.{length-s15Fixed16s}
-use Rattle.profile.specs.Layout.{D50, Varying, class, space, front, header, elements, slots, withId, profileId, layout}
+use Rattle.profile.specs.Layout.{D50, Varying, class, space, front, header, varying, elements, slots, withId, profileId, layout}
 use Rattle.profile.specs.LayoutLaws.{length-header, plan-fours, length-id, length-layout, layout-bounds, blanked-withId}
 use Rattle.profile.specs.declared.Curve.{Curve}
 use Rattle.profile.specs.declared.Curve.the-variants.{Named, Gamma}
@@ -39,7 +39,9 @@ use Rattle.reader_spec.specs.PlanInLaws.{elementOf, content-back, shape-
 -- numbers that their four bytes hold, and sixteen bytes of id
 pub record Fits (v : Varying) : Type 0 where
   pub size : v .size < 2 ^ 32
-  pub intent : v .intent < 2 ^ 32
+  pub maker : FourBytes (v .maker)
+  pub model : FourBytes (v .model)
+  pub intent : FourBytes (v .intent)
   pub id : length (v .id) ≡ 16
 
 length-class : (k : Kind) → length (class k) ≡ 4
@@ -52,19 +54,55 @@ length-space Gray = refl
 length-space Rgb = refl
 length-space Xyb = refl
 
--- its parts from the intent on
-header-intent : (k : Kind) (v : Varying) (r : List ℕ) → v .intent < 2 ^ 32 → word32 (drop 64 (header k v ++ r)) ≡ v .intent
-unfolding header join
-header-intent k v r h =
-    let before = be32 (v .size) ∷ front k ∷ zeros 4 ∷ zeros 16 ∷ [] in
-    let after = be32 (v .intent) ∷ s15Fixed16s D50 ∷ Sig.jxl ∷ v .id ∷ zeros 28 ∷ [] in
-    rw (from-part before after r 64 (simp (length-append, length-be16, length-be32, length-class, length-space)), append-assoc) (word32-be32 (v .intent) _ h)
+-- from place n on a list has the number x in four bytes, and then others
+record From (x n : ℕ) (l : List ℕ) : Type 0 where
+  rest : List ℕ
+  here : drop n l ≡ be32 x ++ rest
+
+from-word : (before after : List (List ℕ)) (x n : ℕ) (r : List ℕ) → length (join before) ≡ n → From x n (join (before ++ (be32 x ∷ after)) ++ r)
+unfolding join
+from-word before after x n r l = record { rest = join after ++ r; here = from-part before (be32 x ∷ after) r n l ∙ append-assoc (be32 x) (join after) r }
+
+module _ (k : Kind) (v : Varying) where
+  abbrev afterIntent : List (List ℕ)
+  afterIntent = s15Fixed16s D50 ∷ Sig.jxl ∷ v .id ∷ zeros 28 ∷ []
+
+  abbrev afterModel : List (List ℕ)
+  afterModel = zeros 8 ∷ be32 (v .intent) ∷ afterIntent
+
+  from-maker : (r : List ℕ) → From (v .maker) 48 (header k v ++ r)
+  unfolding header join
+  from-maker r =
+      from-word (be32 (v .size) ∷ front k ∷ zeros 4 ∷ []) (be32 (v .model) ∷ afterModel) (v .maker) 48 r
+      (simp (length-append, length-be16, length-be32, length-class, length-space))
+
+  from-model : (r : List ℕ) → From (v .model) 52 (header k v ++ r)
+  unfolding header join
+  from-model r =
+      from-word (be32 (v .size) ∷ front k ∷ zeros 4 ∷ be32 (v .maker) ∷ []) afterModel (v .model) 52 r
+      (simp (length-append, length-be16, length-be32, length-class, length-space))
+
+  from-intent : (r : List ℕ) → From (v .intent) 64 (header k v ++ r)
+  unfolding header join
+  from-intent r =
+      from-word (be32 (v .size) ∷ front k ∷ zeros 4 ∷ be32 (v .maker) ∷ be32 (v .model) ∷ zeros 8 ∷ []) afterIntent (v .intent) 64 r
+      (simp (length-append, length-be16, length-be32, length-class, length-space))
+
+word-from : {x n : ℕ} {l : List ℕ} → From x n l → FourBytes x → word32 (drop n l) ≡ x
+word-from {x} f h = ap word32 (f .here) ∙ word32-be32 x (f .rest) h
+
+-- whatever number it is
+fits-from : {x n : ℕ} {l : List ℕ} → From x n l → FourBytes (word32 (drop n l))
+fits-from {x} f = rw (f .here) (word32-below x (f .rest))
+
+pub device-fits : (k : Kind) (v : Varying) (r : List ℕ) → FourBytes (word32 (drop 48 (header k v ++ r))) × FourBytes (word32 (drop 52 (header k v ++ r)))
+device-fits k v r = (fits-from (from-maker k v r), fits-from (from-model k v r))
 
 -- and from the id on
 header-id : (k : Kind) (v : Varying) (r : List ℕ) → length (v .id) ≡ 16 → take 16 (drop 84 (header k v ++ r)) ≡ v .id
 unfolding header join
 header-id k v r h =
-    let before = be32 (v .size) ∷ front k ∷ zeros 4 ∷ zeros 16 ∷ be32 (v .intent) ∷ s15Fixed16s D50 ∷ Sig.jxl ∷ [] in
+    let before = be32 (v .size) ∷ front k ∷ zeros 4 ∷ be32 (v .maker) ∷ be32 (v .model) ∷ zeros 8 ∷ be32 (v .intent) ∷ s15Fixed16s D50 ∷ Sig.jxl ∷ [] in
     let after = v .id ∷ zeros 28 ∷ [] in
     rw (from-part before after r 84 (simp (length-append, length-be16, length-be32, length-class, length-space, length-s15Fixed16s)), append-assoc) (take-at (v .id) _ 16 h)
 
@@ -74,13 +112,20 @@ header-size k v r h = rw (append-assoc (be32 (v .size))) (word32-be32 (v .size) 
 
 header-varying : (k : Kind) (v : Varying) (r : List ℕ) → Fits v → varyingOf (header k v ++ r) ≡ v
 unfolding varyingOf
-header-varying k v r h = λ i. record { size = header-size k v r (h .size) i; intent = header-intent k v r (h .intent) i; id = header-id k v r (h .id) i }
+header-varying k v r h = λ i.
+    record {
+      size = header-size k v r (h .size) i;
+      maker = word-from (from-maker k v r) (h .maker) i;
+      model = word-from (from-model k v r) (h .model) i;
+      intent = word-from (from-intent k v r) (h .intent) i;
+      id = header-id k v r (h .id) i;
+    }
 
 -- class and space stand at bytes 8 and 12 of what follows the size; once the kind is known the front computes as far as these
 class-and-space : (k : Kind) (v : Varying) (r : List ℕ) → (take 4 (drop 12 (header k v ++ r)) ≡ class k) × (take 4 (drop 16 (header k v ++ r)) ≡ space k)
 unfolding header join
 class-and-space k v r =
-    let after = front k ∷ zeros 4 ∷ zeros 16 ∷ be32 (v .intent) ∷ s15Fixed16s D50 ∷ Sig.jxl ∷ v .id ∷ zeros 28 ∷ [] in
+    let after = front k ∷ zeros 4 ∷ be32 (v .maker) ∷ be32 (v .model) ∷ zeros 8 ∷ be32 (v .intent) ∷ s15Fixed16s D50 ∷ Sig.jxl ∷ v .id ∷ zeros 28 ∷ [] in
     let past : drop 4 (header k v ++ r) ≡ join after ++ r = from-part (be32 (v .size) ∷ []) after r 4 (simp (length-append, length-be32)) in (
       ap (take 4) (sym (drop-drop 8 4 (header k v ++ r)) ∙ ap (drop 8) past) ∙ in-front k (drop 1 after) .0,
       ap (take 4) (sym (drop-drop 12 4 (header k v ++ r)) ∙ ap (drop 12) past) ∙ in-front k (drop 1 after) .1,
@@ -99,11 +144,7 @@ header-kind Xyb v r = let h = class-and-space Xyb v r in rw (h .0, h .1)
 
 -- ---- a plan's file, under any id
 
--- what its header says, in a file of n bytes
-abbrev pub varying : ℕ → List ℕ → Plan → Varying
-varying n id p = record { size = n; intent = p .intent; id = id }
-
-intent-small : (k : Kind) (i : ℕ) → GoodIntent k i → i < 2 ^ 32
+intent-small : (k : Kind) (i : ℕ) → GoodIntent k i → FourBytes i
 intent-small Gray i h = omega arith
 intent-small Rgb i h = omega arith
 intent-small Xyb i h = omega arith
@@ -123,7 +164,7 @@ module _ (N : ℤ → Type 0) (p : Plan) (g : Good N p) where
 
 module _ (N : ℤ → Type 0) (p : Plan) (g : Good N p) (id : List ℕ) (sixteen : length id ≡ 16) where
   says : Fits (varying (fileLength (slots p)) id p)
-  says = record { size = small N p g; intent = intent-small (kind p) (p .intent) (g .intent); id = sixteen }
+  says = record { size = small N p g; maker = g .maker; model = g .model; intent = intent-small (kind p) (p .intent) (g .intent); id = sixteen }
 
   pub header-128 : length (header (kind p) (varying (fileLength (slots p)) id p)) ≡ 128
   header-128 = length-header (kind p) _ sixteen
@@ -175,7 +216,8 @@ plan-in-withId p g id h =
     (λ j. contentFrom (shape-withId (SFits w32) p g id h j .kind) (shape-withId (SFits w32) p g id h j) (λ i. element-withId (SFits w32) p g id h i j))
     ∙ content-back (p .intent) (p .content) (withId id p) (g .content)
     in
-    λ j. record { intent = varying-withId (SFits w32) p g id h j .intent; content = c j }
+    let v = varying-withId (SFits w32) p g id h in
+    λ j. record { intent = v j .intent; maker = v j .maker; model = v j .model; content = c j }
 
 plan-in-layout : (p : Plan) → Wide p → planIn (layout p) ≡ p
 unfolding layout
@@ -228,4 +270,4 @@ module _ (M N : ℤ → Type 0) (f : (z : ℤ) → M z → N z) where
   content-weaken xyb h = h
 
 pub valid-wide : (p : Plan) → Valid p → Wide p
-valid-wide p v = record { intent = v .intent; content = content-weaken InRange (SFits w32) in-range-fits (p .content) (v .content) }
+valid-wide p v = record { intent = v .intent; maker = v .maker; model = v .model; content = content-weaken InRange (SFits w32) in-range-fits (p .content) (v .content) }

@@ -138,4 +138,7 @@ abbrev pub elementIn : List ℕ → ℕ → List ℕ
 elementIn f i = drop (lineIn f i .offset) f
 
 unfoldable pub planIn : List ℕ → Plan
-planIn f = let s = shapeIn f in record { intent = varyingOf f .intent; content = contentFrom (s .kind) s (elementIn f) }
+planIn f =
+    let s = shapeIn f in
+    let v = varyingOf f in
+    record { intent = v .intent; maker = v .maker; model = v .model; content = contentFrom (s .kind) s (elementIn f) }

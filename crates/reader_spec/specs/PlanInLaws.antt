@@ -18,7 +18,7 @@ use Rattle.buffer.specs.AllLaws.{All-take, All-drop}
 use Rattle.profile.specs.Signatures as Sig
 use Rattle.profile.specs.Elements.{Entry, Element, entries, body}
 use Rattle.profile.specs.Plan.{GrayContent, RgbContent, Content, gray, rgb, xyb, kindOf, GoodCurve, GoodGray, GoodRgb, GoodContent}
-use Rattle.profile.specs.Numbers.{numbersFor, numbersOf, textFor, textOf}
+use Rattle.profile.specs.Numbers.{numbersWith, numbersFor, numbersOf, textFor, textOf}
 use Rattle.profile.specs.declared.Kind.{Kind}
 use Rattle.profile.specs.declared.Kind.the-variants.{Gray, Rgb, Xyb}
 use Rattle.profile.specs.TagTypes
@@ -268,7 +268,7 @@ free-short Xyb n = omega arith
 
 module _ (f : List ℕ) (s : Shape) (e : s ≡ PlanIn.shapeIn f) where
   pub numbers-by : (i : ℕ) (k : Kind) → i ≡ varyingOf f .intent → s .kind ≡ k
-      → numbersFor i (PlanIn.contentFrom k s (PlanIn.elementIn f)) ≡ numbersOf (PlanIn.planIn f)
+      → numbersWith (varyingOf f .maker) (varyingOf f .model) (numbersFor i (PlanIn.contentFrom k s (PlanIn.elementIn f))) ≡ numbersOf (PlanIn.planIn f)
   unfolding PlanIn.planIn
   numbers-by i k h g = rw (h, ← g, e)
 

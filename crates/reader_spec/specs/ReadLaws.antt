@@ -19,7 +19,7 @@ use Rattle.reader_spec.specs.PlanInLaws.{content-kind, shape-back, shape
 use Rattle.reader_spec.specs.FileLaws.{header-kind, fours, small, valid-wide}
 use Rattle.reader_spec.specs.ShapesLaws.{plain, plain-valid, plain-kind, plain-slots}
 use Rattle.reader_spec.specs.RefusalList
-use Rattle.reader_spec.specs.RefusalListLaws.{after-header, regions, has-plan-in, has-layout}
+use Rattle.reader_spec.specs.RefusalListLaws.{after-header, header-device, regions, has-plan-in, has-layout}
 use Rattle.reader_spec.specs.Decide as Decide
 use Rattle.reader_spec.specs.Decide.{TableIs, BodyIs}
 use Rattle.reader_spec.specs.Read.{check, fromId, fromRange, fromBody, fromTable, read}
@@ -95,11 +95,12 @@ module _ (f : List ℕ) (ok21 : RefusalList.Ok21 f) where
     unfolding planIn
     to-26 h i b =
         let s : Shape = shapeIn f in
+        let fits = header-device f ok21 (kindFrom f) h in
         let k : kind (planIn f) ≡ kindFrom f = content-kind (s .kind) s (elementIn f) ∙ kind-of-shape in
         record {
           plan = planIn f;
-          wide = record { intent = subst (λ x. GoodIntent x (varyingOf f .intent)) (sym k) i; content = b .good };
-          has = record { header = subst (λ x. RefusalList.Header x f) (sym k) h; intent = refl; table = b .table; body = b .body };
+          wide = record { intent = subst (λ x. GoodIntent x (varyingOf f .intent)) (sym k) i; maker = fits .0; model = fits .1; content = b .good };
+          has = record { header = subst (λ x. RefusalList.Header x f) (sym k) h; maker = refl; model = refl; intent = refl; table = b .table; body = b .body };
         }
 
     plan-is : (a : RefusalList.Ok26 f) → planIn f ≡ a .plan
@@ -111,7 +112,7 @@ module _ (f : List ℕ) (ok21 : RefusalList.Ok21 f) where
     to-27 : RefusalList.Ok26 f → GoodContent InRange (planIn f .content) → RefusalList.Ok27 f
     to-27 a c =
         let d : GoodContent InRange (a .plan .content) = rw (plan-is a) at c in
-        record { plan = a .plan; valid = record { intent = a .wide .intent; content = d }; has = a .has }
+        record { plan = a .plan; valid = record { intent = a .wide .intent; maker = a .wide .maker; model = a .wide .model; content = d }; has = a .has }
 
     abbrev wide-27 : RefusalList.Ok27 f → RefusalList.Ok26 f
     wide-27 a = record { plan = a .plan; wide = valid-wide (a .plan) (a .valid); has = a .has }

@@ -12,7 +12,7 @@ use Rattle.reader_spec.specs.Table.{varyingOf, tableOf, bodyOf}
 
 -- ---- what each check asks of a file
 
--- the header is that of this kind, but for size, intent and id, which may be any
+-- the header is that of this kind, but for size, maker, model, intent and id, which may be any
 unfoldable pub Header : Kind → List ℕ → Type 0
 Header k f = take headerSize f ≡ header k (varyingOf f)
 
@@ -39,9 +39,11 @@ pub record Ok25 (f : List ℕ) : Type 0 where
   pub table : tableOf f ≡ table (slots plan)
   pub length-is : length f ≡ fileLength (slots plan)
 
--- a plan has this file's class and space, intent, tag table, elements and padding
+-- a plan has this file's class and space, maker, model, intent, tag table, elements and padding
 pub record Has (p : Plan) (f : List ℕ) : Type 0 where
   pub header : Header (kind p) f
+  pub maker : varyingOf f .maker ≡ p .maker
+  pub model : varyingOf f .model ≡ p .model
   pub intent : varyingOf f .intent ≡ p .intent
   pub table : tableOf f ≡ table (slots p)
   pub body : bodyOf f ≡ body (elements p)

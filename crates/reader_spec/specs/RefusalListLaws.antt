@@ -10,18 +10,19 @@ use lib.Seq.{take-at, drop-drop, length-take-le}
 use mir.Syntax.{w32}
 use mir.Val.{SFits}
 use Rattle.buffer.specs.All.{All, none, more}
+use Rattle.words.specs.Words.{word32}
 use Rattle.md5.specs.Md5.{md5}
 use Rattle.buffer.specs.FirstLaws.{first-unique, first-not-all}
 use Rattle.profile.specs.Elements.{lineStart, start, table, body, file, fileLength}
 use Rattle.profile.specs.ElementsLaws.{length-table, length-body}
-use Rattle.profile.specs.Plan.{Plan, kind, Good, Valid, Wide}
+use Rattle.profile.specs.Plan.{Plan, kind, FourBytes, Good, Valid, Wide}
 use Rattle.profile.specs.declared.Kind.{Kind}
 use Rattle.buffer.specs.Bytes.{zeros}
-use Rattle.profile.specs.Layout.{header, elements, slots, withId, blanked, profileId, layout}
+use Rattle.profile.specs.Layout.{header, varying, elements, slots, withId, blanked, profileId, layout}
 use Rattle.profile.specs.LayoutLaws.{length-id, layout-bounds, blanked-withId}
 use Rattle.reader_spec.specs.Table.{varyingOf, tagsOf, tableOf, bodyOf}
 use Rattle.reader_spec.specs.PlanIn.{planIn}
-use Rattle.reader_spec.specs.FileLaws.{varying, fours, header-128, length-slots, table-withId, body-withId, varying-withId, plan-in-withId, layout-injective, id-layout, size-layout, valid-wide}
+use Rattle.reader_spec.specs.FileLaws.{device-fits, fours, header-128, length-slots, table-withId, body-withId, varying-withId, plan-in-withId, layout-injective, id-layout, size-layout, valid-wide}
 use Rattle.reader_spec.specs.RefusalList
 
 -- ---- the numbers of the checks
@@ -48,6 +49,13 @@ module _ (f : List ℕ) (ok21 : RefusalList.Ok21 f) where
   unfolding RefusalList.Header
   after-header k h = sym (take-append-drop 128 f) ∙ ap (λ x. x ++ drop 128 f) h
 
+  -- whatever four bytes a header has for maker and model, they are numbers of four bytes
+  pub header-device : (k : Kind) → RefusalList.Header k f → FourBytes (varyingOf f .maker) × FourBytes (varyingOf f .model)
+  unfolding varyingOf
+  header-device k h =
+      let fits = device-fits k (varyingOf f) (drop 128 f) in
+      (subst (λ l. FourBytes (word32 (drop 48 l))) (sym (after-header k h)) (fits .0), subst (λ l. FourBytes (word32 (drop 52 l))) (sym (after-header k h)) (fits .1))
+
   pub regions : drop 128 f ≡ tableOf f ++ bodyOf f
   unfolding bodyOf tableOf
   regions =
@@ -68,7 +76,7 @@ module _ (f : List ℕ) (ok21 : RefusalList.Ok21 f) where
         )
 
     has-varying : varyingOf f ≡ varying (fileLength (slots p)) (varyingOf f .id) p
-    has-varying = λ i. record { size = (ok22 .size ∙ has-length) i; intent = h .intent i; id = varyingOf f .id }
+    has-varying = λ i. record { size = (ok22 .size ∙ has-length) i; maker = h .maker i; model = h .model i; intent = h .intent i; id = varyingOf f .id }
 
     pub has-withId : f ≡ withId (varyingOf f .id) p
     unfolding withId file
@@ -100,6 +108,8 @@ module _ (N : ℤ → Type 0) (p : Plan) (g : Good N p) (id : List ℕ) (sixteen
   has-of =
       record {
         header = header-of;
+        maker = ap (λ v. v .maker) (varying-withId N p g id sixteen);
+        model = ap (λ v. v .model) (varying-withId N p g id sixteen);
         intent = ap (λ v. v .intent) (varying-withId N p g id sixteen);
         table = table-withId N p g id sixteen;
         body = body-withId N p g id sixteen;

@@ -36,7 +36,7 @@ contentFor Xyb n g v = xyb
 
 -- a text of A's, every number zero
 abbrev pub plain : Shape → Plan
-plain s = record { intent = 0; content = contentFor (s .kind) (s .letters) (s .gamma) (s .cicp) }
+plain s = record { intent = 0; maker = 0; model = 0; content = contentFor (s .kind) (s .letters) (s .gamma) (s .cicp) }
 
 good-text : (n : ℕ) → 1 ≤ n → n ≤ maxLetters → GoodText (replicate n 65)
 good-text n p q = record { some-letter = rw length-replicate p; short = rw length-replicate q; ascii = All-replicate n 65 (omega arith) }
@@ -76,6 +76,8 @@ pub plain-valid : (s : Shape) → GoodShape s → Valid (plain s)
 plain-valid s g =
     record {
       intent = good-intent (s .kind) (s .letters) (s .gamma) (s .cicp);
+      maker = omega arith;
+      model = omega arith;
       content = good-content (s .kind) (s .letters) (s .gamma) (s .cicp) (g .some-letter) (g .short) (g .pair);
     }
 

@@ -4,11 +4,18 @@ use mathlib.Core.List.{List, [], _∷_}
 use lib.ListN.{take, drop, getD}
 use Rattle.words.specs.Words.{word32}
 use Rattle.profile.specs.Elements.{headerSize, countSize, lineSize, lineStart, Entry}
-use Rattle.profile.specs.Layout.{Varying, intentAt, idAt, idSize}
+use Rattle.profile.specs.Layout.{Varying, makerAt, modelAt, intentAt, idAt, idSize}
 
 -- what the header says where its kind does not fix it
 unfoldable pub varyingOf : List ℕ → Varying
-varyingOf f = record { size = word32 f; intent = word32 (drop intentAt f); id = take idSize (drop idAt f) }
+varyingOf f =
+    record {
+      size = word32 f;
+      maker = word32 (drop makerAt f);
+      model = word32 (drop modelAt f);
+      intent = word32 (drop intentAt f);
+      id = take idSize (drop idAt f);
+    }
 
 -- the number of tags
 unfoldable pub tagsOf : List ℕ → ℕ

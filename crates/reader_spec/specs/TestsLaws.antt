@@ -13,7 +13,7 @@ use Rattle.numbers.specs.Fixed.{largest}
 use Rattle.buffer.specs.All.{All, none, more}
 use Rattle.buffer.specs.BoolLaws.{holds, both, both-left, both-right}
 use Rattle.profile.specs.Plan.{Content, gray, rgb, xyb, InRange, GoodCurve, GoodCicp, GoodContent, CicpPrimaries}
-use Rattle.profile.specs.Numbers.{numbersFor}
+use Rattle.profile.specs.Numbers.{numbersWith, numbersFor}
 use Rattle.profile.specs.declared.Curve.{Curve}
 use Rattle.profile.specs.declared.Curve.the-variants.{Named, Gamma}
 use Rattle.profile.specs.declared.CurveName.{CurveName}
@@ -98,8 +98,8 @@ zeros-in-range = simp (in-range-of (pos 0) (omega arith))
 zero-in-range : Tests.inRange (pos 0) ≡ true
 zero-in-range = in-range-of (pos 0) (omega arith)
 
-module _ (N : ℤ → Type 0) (i : ℕ) where
-  pub in-range-content : (c : Content) → GoodContent N c → Tests.numbersInRange (numbersFor i c) ≡ true → GoodContent InRange c
+module _ (N : ℤ → Type 0) (a b i : ℕ) where
+  pub in-range-content : (c : Content) → GoodContent N c → Tests.numbersInRange (numbersWith a b (numbersFor i c)) ≡ true → GoodContent InRange c
   unfolding Tests.numbersInRange
   in-range-content (gray g) h e =
       let r = both-right (Tests.curveInRange (g .curve)) _ e in
@@ -124,12 +124,12 @@ module _ (N : ℤ → Type 0) (i : ℕ) where
       }
   in-range-content xyb h e = tt
 
-pub content-in-range : (i : ℕ) (c : Content) → GoodContent InRange c → Tests.numbersInRange (numbersFor i c) ≡ true
+pub content-in-range : (a b i : ℕ) (c : Content) → GoodContent InRange c → Tests.numbersInRange (numbersWith a b (numbersFor i c)) ≡ true
 unfolding Tests.numbersInRange
-content-in-range i (gray g) h =
+content-in-range a b i (gray g) h =
     both (curve-in-range-of (g .curve) (h .curve))
     (both (in-range-of (g .white-x) (h .white-x)) (both (in-range-of (g .white-z) (h .white-z)) (both zeros-in-range zeros-in-range)))
-content-in-range i (rgb g) h =
+content-in-range a b i (rgb g) h =
     both (curve-in-range-of (g .curve) (h .curve))
     (both zero-in-range (both zero-in-range (both (all-in-range-of (h .chad)) (all-in-range-of (h .columns)))))
-content-in-range i xyb h = both refl (both zero-in-range (both zero-in-range (both zeros-in-range zeros-in-range)))
+content-in-range a b i xyb h = both refl (both zero-in-range (both zero-in-range (both zeros-in-range zeros-in-range)))

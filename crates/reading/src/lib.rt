@@ -13,6 +13,8 @@ pub struct Reading {
     pub refusal: u32,
     pub kind: u32,
     pub intent: u32,
+    pub maker: u32,
+    pub model: u32,
     pub curve: u32,
     pub gamma: i32,
     pub cicp: u32,
@@ -31,6 +33,8 @@ pub fn refused(number: u32) -> Reading
         refusal: number,
         kind: 0,
         intent: 0,
+        maker: 0,
+        model: 0,
         curve: 0,
         gamma: 0,
         cicp: 0,
@@ -103,6 +107,8 @@ pub fn accepted(plan: Numbers, letters: usize, text: [u8; MAX_LETTERS]) -> Readi
     let mut r = refused(0);
     r.kind = kind_number(kind);
     r.intent = plan.intent;
+    r.maker = plan.maker;
+    r.model = plan.model;
     r.curve = curve_number(curve);
     r.gamma = gamma_number(curve);
     r.cicp = cicp_number(cicp);

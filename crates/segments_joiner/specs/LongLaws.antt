@@ -49,9 +49,9 @@ header-parts : (k : Kind) (v : Varying) → header k v ≡ be32 (v .size) ++ aft
 unfolding header join be32
 header-parts k v = refl
 
-same-after : (k : Kind) (v w : Varying) → v .intent ≡ w .intent → v .id ≡ w .id → after-size k v ≡ after-size k w
+same-after : (k : Kind) (v w : Varying) → v .maker ≡ w .maker → v .model ≡ w .model → v .intent ≡ w .intent → v .id ≡ w .id → after-size k v ≡ after-size k w
 unfolding header join be32
-same-after k v w e f = ap₂ (λ (i : ℕ) (d : List ℕ). drop 4 (header k (record { size = 0; intent = i; id = d }))) e f
+same-after k v w a b e f = λ j. drop 4 (header k (record { size = 0; maker = a j; model = b j; intent = e j; id = f j }))
 
 module _ (k : Kind) (f : List ℕ) (e : take 4 f ≡ be32 (varyingOf f .size)) where
   header-rest : Reader.Header k f → take 124 (drop 4 f) ≡ after-size k (varyingOf f)
@@ -98,9 +98,20 @@ module _ (front : List ℕ) (bs : Bytes front) (l : List ℕ) (more : maxLength 
   unfolding kindFrom
   same-kind = rw (same-part 12 4 (omega arith) (omega arith), same-part 16 4 (omega arith) (omega arith))
 
+  same-word : (n : ℕ) → 4 ≤ n → n + 4 ≤ 132 → word32 (drop n head) ≡ word32 (drop n l)
+  same-word n low high = word-front (drop n head) ∙ ap word32 (same-part n 4 low high) ∙ sym (word-front (drop n l))
+
+  same-maker : varyingOf head .maker ≡ varyingOf l .maker
+  unfolding varyingOf
+  same-maker = same-word 48 (omega arith) (omega arith)
+
+  same-model : varyingOf head .model ≡ varyingOf l .model
+  unfolding varyingOf
+  same-model = same-word 52 (omega arith) (omega arith)
+
   same-intent : varyingOf head .intent ≡ varyingOf l .intent
   unfolding varyingOf
-  same-intent = word-front (drop 64 head) ∙ ap word32 (same-part 64 4 (omega arith) (omega arith)) ∙ sym (word-front (drop 64 l))
+  same-intent = same-word 64 (omega arith) (omega arith)
 
   same-id : varyingOf head .id ≡ varyingOf l .id
   unfolding varyingOf
@@ -126,7 +137,7 @@ module _ (front : List ℕ) (bs : Bytes front) (l : List ℕ) (more : maxLength 
 
   module _ (k : Kind) where
     after-is : after-size k (varyingOf head) ≡ after-size k (varyingOf l)
-    after-is = same-after k (varyingOf head) (varyingOf l) same-intent same-id
+    after-is = same-after k (varyingOf head) (varyingOf l) same-maker same-model same-intent same-id
 
     rest-is : take 124 (drop 4 head) ≡ take 124 (drop 4 l)
     rest-is = same-part 4 124 (omega arith) (omega arith)

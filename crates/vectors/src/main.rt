@@ -239,7 +239,9 @@ fn put_plan(out: &mut [u8], single: [u32; 9], chad: [i32; 9], columns: [i32; 9])
 fn reading(file: &[u8], out: &mut [u8]) -> usize {
     let r = reader::read(file);
     let text = r.text;
-    let end = put(&mut *out, 108, part(&text, 0, r.letters));
+    put_word(&mut *out, 108, r.maker);
+    put_word(&mut *out, 112, r.model);
+    let end = put(&mut *out, 116, part(&text, 0, r.letters));
     let chad = r.chad;
     let columns = r.columns;
     put_plan(out, single_numbers(r), chad, columns);
@@ -264,7 +266,8 @@ fn put_text(out: &mut [u8], at: usize, e: JxlColorEncoding) -> usize {
 // The length or the refusal, the MD5 of the whole output, and the text. What is written is read, and its elements are found.
 fn written(e: JxlColorEncoding, capacity: usize, out: &mut [u8]) -> usize {
     let mut space = [UNTOUCHED; 1300];
-    let number = match writer::maybe_create_profile(e, lent(&mut space, capacity)) {
+    let encoding = encoding_plan::plain_encoding(e);
+    let number = match writer::maybe_create_profile(encoding, lent(&mut space, capacity)) {
         Profile::Written {
             length: n,
             rounded: _,
@@ -560,7 +563,7 @@ fn main() {
     let list = part(&space, 0, n);
     if same_bytes(
         part(list, 0, 54),
-        b"merqyduk vectors, format 2, seed 1, jxl-rs 9b3c1af91e\n",
+        b"merqyduk vectors, format 3, seed 1, jxl-rs 9b3c1af91e\n",
     ) {
         replay(list, 54, &mut tally);
     } else {

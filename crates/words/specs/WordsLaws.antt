@@ -77,6 +77,10 @@ word32-be32 n r h =
     rw (be32-halves n, word32-halves)
     (rw (word16-be16 (n / 65536) (be16 (n % 65536) ++ r) (omega arith), word16-be16 (n % 65536) r (omega arith)) (omega arith))
 
+pub word32-below : (n : ℕ) (r : List ℕ) → word32 (be32 n ++ r) < 2 ^ 32
+unfolding be32 word32
+word32-below n r = omega arith
+
 -- ---- a word read and written
 
 pub be16-word16 : (a b : ℕ) → a < 256 → b < 256 → be16 (word16 (a ∷ b ∷ [])) ≡ a ∷ b ∷ []

@@ -6,14 +6,15 @@ use mathlib.Core.List.{List}
 use lib.Dec.{leb}
 use lib.ListN.{length}
 use Rattle.buffer.specs.Buffer.{put}
-use Rattle.profile.specs.Plan.{Plan}
+use Rattle.profile.specs.Plan.{Plan, FourBytes}
 use Rattle.profile.specs.Layout.{layout}
 use Rattle.buffer.specs.Checked.{Checked, is, refused, then}
 use Rattle.numbers.specs.Rounded.{Counted}
 use Rattle.color_encoding.specs.declared.JxlColorEncoding.{JxlColorEncoding}
 use Rattle.text.specs.Held.{HeldEncoding}
-use Rattle.encoding_plan.specs.PlanOf.{planOf}
 use Rattle.encoding_plan.specs.FixedFloats.{countedPlan}
+use Rattle.encoding_plan.specs.EncodingPlan.{encodingPlan, countedEncodingPlan}
+use Rattle.encoding_plan.specs.declared.Encoding.{Encoding}
 use Rattle.writer.specs.declared.Profile.{Profile}
 use Rattle.writer.specs.declared.Profile.the-variants.{Written, Refused}
 
@@ -51,17 +52,20 @@ profileBy n k = cond (leb n 99) (Refused n) (Written n k)
 
 -- the promise of a call that writes the plan of an encoding, or refuses: its answer r is the writer's, as `shown` shows it. Where the encoding comes by
 -- codes they may have no meaning
-pub record Writes {A : Type 0} (shown : Profile → A) (c : Checked JxlColorEncoding) (before after : List ℕ) (r : A) : Type 0 where
-  pub answer : r ≡ shown (answer (then c countedPlan) (length before))
-  pub output : after ≡ output (then c planOf) before
+pub record Writes {A : Type 0} (shown : Profile → A) (c : Checked Encoding) (before after : List ℕ) (r : A) : Type 0 where
+  pub answer : r ≡ shown (answer (then c countedEncodingPlan) (length before))
+  pub output : after ≡ output (then c encodingPlan) before
 
 -- the promise of `maybe_create_profile` for the encoding e
-pub record Creates (e : JxlColorEncoding) (before after : List ℕ) (r : Profile) : Type 0 where
+pub record Creates (e : Encoding) (before after : List ℕ) (r : Profile) : Type 0 where
   pub writes : Writes (λ p. p) (is e) before after r
-  -- an encoding in code holds binary32 values, as the theorems about its plan ask
-  pub held : HeldEncoding e
+  -- an encoding in code holds binary32 values and numbers of four bytes, as the theorems about its plan ask
+  pub held : HeldEncoding (e .color)
+  pub maker : FourBytes (e .maker)
+  pub model : FourBytes (e .model)
 
--- the promise of `profile_length` for the encoding e: what the writer answers on an output of n bytes
+-- the promise of `profile_length` for the color encoding e: what the writer answers on an output of n bytes, whatever maker and model are (WriterLaws,
+-- `any-device`)
 pub record MeasuresProfile (e : JxlColorEncoding) (n : ℕ) (r : Profile) : Type 0 where
   pub answer : r ≡ answer (countedPlan e) n
   pub held : HeldEncoding e

@@ -1,5 +1,6 @@
 // The writer of profiles: `maybe_create_profile` of api/color.rs, and what it would answer, without an output.
 use color_encoding::JxlColorEncoding;
+use encoding_plan::Encoding;
 use encoding_plan::EncodingPlan;
 use profile::Numbers;
 ghost use mathlib.Core.Path.{_≡_};
@@ -57,25 +58,27 @@ fn put_profile(encoding: JxlColorEncoding, plan: Numbers, size: usize, out: &mut
     layout::put_plan(out, plan, &bytes[..len], size);
 }
 
-// What `maybe_create_profile` answers where the output has `capacity` bytes: the profile's length, before there is memory for it.
+// What `maybe_create_profile` answers where the output has `capacity` bytes, whatever maker and model are: the profile's length, before there is memory
+// for it.
 pub fn profile_length(encoding: JxlColorEncoding, capacity: usize) -> Profile
     ensures { λ r. ⌜ MeasuresProfile encoding capacity r ⌝ }
 {
     answer(encoding, encoding_plan::plan_of(encoding), capacity)
 }
 
-// Writes the profile of an encoding to the front of the output. On a refusal no byte of the output changes.
-pub fn maybe_create_profile(encoding: JxlColorEncoding, out: &mut [u8]) -> Profile
+// Writes the profile of an encoding, with its maker and model, to the front of the output. On a refusal no byte of the output changes.
+pub fn maybe_create_profile(encoding: Encoding, out: &mut [u8]) -> Profile
     ensures { λ r. ⌜ Creates encoding (now (out .entry)) (now (out .exit)) r ⌝ }
 {
-    let planned = encoding_plan::plan_of(encoding);
-    let answered = answer(encoding, planned, out.len());
+    let color = encoding.color;
+    let planned = encoding_plan::plan_of(color);
+    let answered = answer(color, planned, out.len());
     if let Profile::Written {
         length: size,
         rounded: _,
     } = answered {
-        let plan = planned.plan;
-        put_profile(encoding, plan, size as usize, out);
+        let plan = profile::with_device(planned.plan, encoding.maker, encoding.model);
+        put_profile(color, plan, size as usize, out);
     }
     answered
 }

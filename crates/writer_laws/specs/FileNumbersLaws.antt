@@ -142,7 +142,7 @@ file-numbers (RgbColorSpace w q t i) {p} e =
     let floats = after (d50Floats ++ chad ++ columns) (transferFloats t) matrices (transfer-numbers t (g .support-is) (g .curve-is)) in
     subst (Numbers (RgbColorSpace w q t i)) (g .plan-is) (floats, (chad-nine (whiteXy w) (g .chad-is), columns-nine (primariesXy q) (whiteXy w) (g .columns-are)))
 file-numbers (XYB Perceptual) {p} e =
-    let same : record { intent = 0; content = xyb } ≡ p = cc in
+    let same : record { intent = 0; maker = 0; model = 0; content = xyb } ≡ p = cc in
     subst (Numbers (XYB Perceptual)) same (after d50Floats Xyb.fixedFloats d50-rounded xyb-numbers, tt)
 file-numbers (XYB Relative) e = absurd (never e)
 file-numbers (XYB Saturation) e = absurd (never e)

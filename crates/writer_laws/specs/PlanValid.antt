@@ -2,6 +2,7 @@
 -- range, nine and nine, and `cicp` stands beside a named curve only. The floats of the encoding are binary32 values, as those of the code are.
 -- Assumes nothing.
 use mathlib.Core.Path.{_≡_, refl}
+use native.Mathlib.Omega.{arith}
 use Rattle.buffer.specs.Checked.{is}
 use Rattle.buffer.specs.CheckedLaws.{never}
 use Rattle.color_encoding.specs.IntentLaws.{intentNumber-le}
@@ -10,8 +11,11 @@ use Rattle.color_encoding.specs.declared.RenderingIntent.the-variants.{Perceptu
 use Rattle.color_encoding.specs.declared.JxlColorEncoding.{JxlColorEncoding}
 use Rattle.color_encoding.specs.declared.JxlColorEncoding.the-variants.{RgbColorSpace, GrayscaleColorSpace, XYB}
 use Rattle.text.specs.Held.{HeldEncoding}
-use Rattle.profile.specs.Plan.{Plan, xyb, Valid}
+use Rattle.profile.specs.Plan.{Plan, xyb, FourBytes, Valid}
 use Rattle.encoding_plan.specs.PlanOf.{planOf}
+use Rattle.encoding_plan.specs.EncodingPlan.{encodingPlan}
+use Rattle.encoding_plan.specs.EncodingPlanLaws.{devised}
+use Rattle.encoding_plan.specs.declared.Encoding.{Encoding}
 use Rattle.encoding_plan.specs.WhiteLaws.{white-in-range}
 use Rattle.writer_laws.specs.PlanLaws.{chad-nine, chad-within, columns-nine, columns-within, white-within, curve-good, cicp-good, text-good, gray-parts, rgb-parts}
 
@@ -23,6 +27,8 @@ plan-valid (GrayscaleColorSpace w t i) held {p} e =
     rw (← g .plan-is)
     (record {
       intent = intentNumber-le i;
+      maker = omega arith;
+      model = omega arith;
       content =
           record {
             text = text-good (GrayscaleColorSpace w t i) held tt;
@@ -36,6 +42,8 @@ plan-valid (RgbColorSpace w q t i) held {p} e =
     rw (← g .plan-is)
     (record {
       intent = intentNumber-le i;
+      maker = omega arith;
+      model = omega arith;
       content =
           record {
             text = text-good (RgbColorSpace w q t i) held (white-in-range w (g .chad-is));
@@ -48,8 +56,15 @@ plan-valid (RgbColorSpace w q t i) held {p} e =
           };
     })
 plan-valid (XYB Perceptual) held {p} e =
-    let same : record { intent = 0; content = xyb } ≡ p = cc in
-    rw (← same) (record { intent = refl; content = tt })
+    let same : record { intent = 0; maker = 0; model = 0; content = xyb } ≡ p = cc in
+    rw (← same) (record { intent = refl; maker = omega arith; model = omega arith; content = tt })
 plan-valid (XYB Relative) held e = absurd (never e)
 plan-valid (XYB Saturation) held e = absurd (never e)
 plan-valid (XYB Absolute) held e = absurd (never e)
+
+-- with any maker and model of four bytes
+pub encoding-plan-valid : (e : Encoding) → HeldEncoding (e .color) → FourBytes (e .maker) → FourBytes (e .model) → {q : Plan} → encodingPlan e ≡ is q → Valid q
+encoding-plan-valid e held maker model h =
+    let d = devised e h in
+    let v = plan-valid (e .color) held (d .color-plan) in
+    rw (← d .device) (record { intent = v .intent; maker = maker; model = model; content = v .content })

@@ -24,7 +24,7 @@ use Rattle.writer.specs.Writer.{answer, number as numberOf, countAfter, profile
 use Rattle.writer.specs.declared.Profile.{Profile}
 use Rattle.writer.specs.declared.Profile.the-variants.{Written, Refused}
 use Rattle.writer_laws.specs.RefusalList.{Check, c1, c2, c3, c4, c5, c6, c7, c8, c9, number, Passed, checks, Answers, refuses, writes}
-use Rattle.writer_laws.specs.WriterAnswers.{writer-answers}
+use Rattle.writer_laws.specs.WriterAnswersLaws.{answered}
 
 -- ---- the number of a refused encoding
 
@@ -42,7 +42,7 @@ module _ (e : JxlColorEncoding) {k : ℕ} (h : planOf e ≡ refused k) where
   before-output c9 f = absurd (first-fails f (λ p g. absurd (never (sym h ∙ g))))
 
   pub refusal-bounds : (1 ≤ k) × (k ≤ 8)
-  refusal-bounds = go (writer-answers e 0) (ap (λ c. answer (counted (fixedFloats e) c) 0) h)
+  refusal-bounds = go (answered e 0) (ap (λ c. answer (counted (fixedFloats e) c) 0) h)
     where
       go : {a : Profile} → Answers e 0 a → a ≡ Refused k → (1 ≤ k) × (k ≤ 8)
       go (refuses {c} f) g = let same : number c ≡ k = cc in rw (← same) (before-output c f)

@@ -156,7 +156,7 @@ xyb-answered i n = onward (XYB i) n tt (go i)
         (onward e n tt
         (onward e n tt
         (onward e n tt
-        (last e n (record { intent = intentNumber Perceptual; content = xyb }) refl)))))))
+        (last e n (record { intent = intentNumber Perceptual; maker = 0; model = 0; content = xyb }) refl)))))))
     go Relative = stops (fails (other refl))
     go Saturation = stops (fails (other refl))
     go Absolute = stops (fails (other refl))

@@ -1,6 +1,6 @@
--- `header_is` meets its contract: the array holds the header of the kind with the file's size, intent and id (`Headers`), and the size fits 32 bits, as a word does.
+-- `header_is` meets its contract: the array holds the header of the kind with the file's size, maker, model, intent and id (`Headers`), and the size fits 32 bits, as a word does.
 use Prim.Native.Nat.{ℕ}
-use mathlib.Core.Path.{sym, ap, ap₂, _∙_}
+use mathlib.Core.Path.{sym, ap, _∙_}
 use mathlib.Core.List.{List}
 use native.Mathlib.Omega.{arith}
 use lib.ListN.{length, take, drop, length-drop}
@@ -16,13 +16,20 @@ use Rattle.comparisons.proofs.Headers.{laid}
 use Rattle.comparisons.proofs.header_is.Statement.{statement}
 use Rattle.comparisons.proofs.header_is.Tie as tie
 
+read-u32-be-requires : tie.Need-read-u32-be-requires
+read-u32-be-requires c κs = search needs
+
+read-u32-be-requires-2 : tie.Need-read-u32-be-requires-2
+read-u32-be-requires-2 c κs = search needs
+
 slice-aggregate-create-icc-header : tie.Need-slice-aggregate-create-icc-header
 slice-aggregate-create-icc-header c = search needs
 
 cast-create-icc-header : tie.Need-cast-create-icc-header
 unfolding varyingOf
 cast-create-icc-header c =
-    record { fits = omega (arith, c .before .before .pre .1, word32-lt (c .before .before .args .file .now) (λ i. c .before .shared-slice-known .given i .fits)) }
+    let known = c .before .before .before in
+    record { fits = omega (arith, known .before .pre .1, word32-lt (known .before .args .file .now) (λ i. known .shared-slice-known .given i .fits)) }
 
 create-icc-header-requires : tie.Need-create-icc-header-requires
 create-icc-header-requires c κs = search needs
@@ -50,7 +57,7 @@ put-bytes-requires c κs = search needs
 
 slice-aggregate-same-bytes : tie.Need-slice-aggregate-same-bytes
 slice-aggregate-same-bytes c =
-    let start = c .before .before .before .before .before .before .before .before .before .before .before .before in
+    let start = c .before .before .before .before .before .before .before .before .before .before .before .before .before .before in
     sym (length-take-le 128 (start .args .file .now) (omega (arith, start .pre)))
 
 slice-aggregate-same-bytes-2 : tie.Need-slice-aggregate-same-bytes-2
@@ -65,7 +72,9 @@ returns c =
     let id = c .before .before .before .before in
     let intent = id .before .before .before .before in
     let blank = intent .before .before .before in
-    let start = blank .before .before .before in
+    let model = blank .before .before in
+    let maker = model .before in
+    let start = maker .before .before in
     let f = start .args .file .now in
     let k = start .args .kind in
     c .same-bytes .ensures
@@ -74,13 +83,23 @@ returns c =
     ∙ ap (λ (l : List ℕ). put l 84 (take 16 (drop 84 f)))
     (intent .put-u32-be .ensures .bytes
     ∙ ap (λ (l : List ℕ). put l 64 (be32 (start .args .intent))) (blank .create-icc-header .ensures))
-    ∙ laid k (length f) (start .args .intent) (take 16 (drop 84 f)) (length-take-le 16 (drop 84 f) (simp length-drop (omega (arith, start .pre))))
-    ∙ ap₂ (λ (n i : ℕ). header k (record { size = n; intent = i; id = take 16 (drop 84 f) })) (sym (start .pre .1)) (start .pre .2))
+    ∙ laid k (length f) (maker .read-u32-be .result) (model .read-u32-be2 .result) (start .args .intent) (take 16 (drop 84 f)) (length-take-le 16 (drop 84 f) (simp length-drop (omega (arith, start .pre))))
+    ∙ (λ j.
+    header k
+    (record {
+      size = sym (start .pre .1) j;
+      maker = maker .read-u32-be .ensures j;
+      model = model .read-u32-be2 .ensures j;
+      intent = start .pre .2 j;
+      id = take 16 (drop 84 f);
+    })))
 
 pub header-is-spec : {M : Type 1} → statement M
 header-is-spec =
     tie.close
     (tie.spec
+    read-u32-be-requires
+    read-u32-be-requires-2
     slice-aggregate-create-icc-header
     cast-create-icc-header
     create-icc-header-requires

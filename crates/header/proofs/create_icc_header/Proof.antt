@@ -1,4 +1,4 @@
--- The size and three runs of fields, one after another, are the header of the kind: the laws `runs` and `header-parts`.
+-- The size and four runs of fields, one after another, are the header of the kind: the laws `runs` and `header-parts`.
 -- Assumes nothing.
 use borrow.Author.Needs.{needs}
 use native.Mathlib.Omega.{arith}
@@ -16,6 +16,9 @@ put-class-and-space-requires c κs = search needs
 put-date-and-platform-requires : tie.Need-put-date-and-platform-requires
 put-date-and-platform-requires c κs = search needs
 
+put-device-requires : tie.Need-put-device-requires
+put-device-requires c κs = search needs
+
 put-last-fields-requires : tie.Need-put-last-fields-requires
 put-last-fields-requires c κs = search needs
 
@@ -24,18 +27,20 @@ same-length c = search needs
 
 returns : tie.Need-returns
 returns c =
-    let s4 = c .before .before in
+    let s5 = c .before .before in
+    let s4 = s5 .before .before .before .before in
     let s3 = s4 .before .before .before .before in
     let s2 = s3 .before .before .before .before in
     let s1 = s2 .before .before .before .before in
     let start = s1 .before .before .before in
-    rw (header-parts (start .args .kind) (start .args .size))
+    rw (header-parts (start .args .kind) (start .args .size) (start .args .maker) (start .args .model))
     (runs
     (next (s1 .put-u32-be .ensures)
     (next (s2 .put-class-and-space .ensures)
     (next (s3 .put-date-and-platform .ensures)
-    (next (s4 .put-last-fields .ensures)
-    done)))) (omega arith) .bytes)
+    (next (s4 .put-device .ensures)
+    (next (s5 .put-last-fields .ensures)
+    done))))) (omega arith) .bytes)
 
 pub create-icc-header-spec : {M : Type 1} → statement M
 create-icc-header-spec =
@@ -44,6 +49,7 @@ create-icc-header-spec =
     put-u32-be-requires
     put-class-and-space-requires
     put-date-and-platform-requires
+    put-device-requires
     put-last-fields-requires
     same-length
     returns)

@@ -11,7 +11,9 @@ returns c = rw (c .enum-told .given .1) (record { writes = record { writes = rec
 returns-2 : tie.Need-returns-2
 returns-2 c =
     let call = c .before .before .before .before in
-    rw (call .before .before .before .code .given .1, c .answered .ensures .0, c .answered .ensures .1) (count-written _ (call .maybe-create-profile .ensures))
+    let plain = call .before .before in
+    rw (plain .before .before .code .given .1, c .answered .ensures .0, c .answered .ensures .1)
+    (count-written _ (rw (plain .plain-encoding .ensures) at (call .maybe-create-profile .ensures)))
 
 pub write-counted-spec : {M : Type 1} → statement M
 write-counted-spec =
@@ -20,6 +22,7 @@ write-counted-spec =
     (λ c. search needs)
     (λ c. search needs)
     returns
+    (λ c κs. search needs)
     (λ c κs. search needs)
     (λ c κs. search needs)
     (λ c. search needs)

@@ -4,6 +4,7 @@ use mathlib.Core.List.{List}
 use Prim.Native.Nat.{ℕ}
 use lib.ListN.{length}
 use Rattle.job.specs.declared.EntryAnswer.{EntryAnswer}
+use Rattle.writer.specs.WriterLaws.{plain-writes}
 use Rattle.job_output.specs.JobOutput.{ProfileOf, fromWriter, profileAnswer, profileOutput}
 use Rattle.job_output.specs.declared.JobProfile.{JobProfile}
 use borrow.Author.Needs.{needs}
@@ -24,6 +25,9 @@ entry-requires c κs = search needs
 enum-known-entry : tie.Need-enum-known-entry
 enum-known-entry c = search needs
 
+plain-encoding-requires : tie.Need-plain-encoding-requires
+plain-encoding-requires c κs = search needs
+
 maybe-create-profile-requires : tie.Need-maybe-create-profile-requires
 maybe-create-profile-requires c κs = search needs
 
@@ -41,9 +45,12 @@ same-length c = search needs
 
 returns : tie.Need-returns
 returns c =
-    let call = c .before .before .before .maybe-create-profile .ensures .writes in
-    of-found (sym (c .before .before .before .before .before .before .before .before .entry .ensures) ∙ c .before .before .before .before .before .before .entry2 .given .1)
-    (record { answer = c .from-writer .ensures ∙ ap fromWriter (call .answer); output = call .output })
+    let create = c .before .before .before in
+    let plain = create .before .before in
+    let found = plain .before .before in
+    let call = plain-writes (plain .plain-encoding .ensures) (create .maybe-create-profile .ensures) in
+    of-found (sym (found .before .before .entry .ensures) ∙ found .entry2 .given .1)
+    (record { answer = c .from-writer .ensures ∙ ap fromWriter (call .0); output = call .1 })
 
 returns-2 : tie.Need-returns-2
 returns-2 c =
@@ -59,6 +66,7 @@ profile-spec =
     (tie.spec
     entry-requires
     enum-known-entry
+    plain-encoding-requires
     maybe-create-profile-requires
     from-writer-requires
     enum-told

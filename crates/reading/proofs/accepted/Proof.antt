@@ -13,13 +13,15 @@ returns c =
     let told = c .before in
     let kind = told .before .before .before .before in
     let start = kind .before .before .before .before .args in
-    let x : SFits w32 (start .plan .«white_x») = record { sfits = told .struct-told .given .1 .1 .1 .1 .0 .1 } in
-    let z : SFits w32 (start .plan .«white_z») = record { sfits = c .struct-told2 .given .1 .1 .1 .1 .1 .0 .1 } in
+    let x : SFits w32 (start .plan .«white_x») = record { sfits = told .struct-told .given .1 .1 .1 .1 .1 .1 .0 .1 } in
+    let z : SFits w32 (start .plan .«white_z») = record { sfits = c .struct-told2 .given .1 .1 .1 .1 .1 .1 .1 .0 .1 } in
     λ j.
     record {
       refusal = ap (λ (r : Reading). r .refusal) (kind .before .refused .ensures) j;
       kind = kind .kind-number .ensures j;
       intent = start .plan .intent;
+      maker = start .plan .maker;
+      model = start .plan .model;
       curve = told .before .before .before .curve-number .ensures j;
       gamma = told .before .before .gamma-number .ensures j;
       cicp = told .before .cicp-number .ensures j;
