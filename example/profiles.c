@@ -1,5 +1,5 @@
-/* Writes the profiles of sRGB and of an own encoding to files, prints their lengths and ids, and shows a count of numbers
- * that were rounded and a refusal.
+/* Writes the profiles of sRGB, of sRGB for a device and of an own encoding to files, prints their lengths and ids, and shows a
+ * count of numbers that were rounded and a refusal.
  *
  *    cc -o profiles profiles.c $(pkg-config --cflags --libs merqyduk)
  *    ./profiles
@@ -40,6 +40,15 @@ int main(void) {
                                          MERQYDUK_CURVE_SRGB, 0,                       /* curve */
                                          MERQYDUK_INTENT_PERCEPTUAL, profile, sizeof profile);
     failed |= save("srgb.icc", answer, profile);
+
+    /* The same with maker and model of a device, four letters each as one number. The profile has another id. */
+    answer = merqyduk_write_rgb_device(MERQYDUK_WHITE_D65, 0, 0,                       /* white */
+                                       MERQYDUK_PRIMARIES_SRGB, 0, 0, 0, 0, 0, 0,      /* primaries */
+                                       MERQYDUK_CURVE_SRGB, 0,                         /* curve */
+                                       MERQYDUK_INTENT_PERCEPTUAL,
+                                       0x41434D45, 0x504C5431,                         /* ACME, PLT1 */
+                                       profile, sizeof profile);
+    failed |= save("device.icc", answer, profile);
 
     /* An own white, own primaries and a display gamma of 2.2, and how many of the profile's numbers were rounded. */
     uint32_t rounded = 0;

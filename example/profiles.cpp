@@ -1,5 +1,5 @@
-// Writes the profiles of sRGB and of an own encoding to files, prints their lengths and ids, and shows a count of numbers that
-// were rounded and a refusal.
+// Writes the profiles of sRGB, of sRGB for a device and of an own encoding to files, prints their lengths and ids, and shows a
+// count of numbers that were rounded and a refusal.
 //
 //    c++ -o profiles profiles.cpp $(pkg-config --cflags --libs merqyduk)
 //    ./profiles
@@ -9,6 +9,7 @@
 #include <fstream>
 
 using merqyduk::Curve;
+using merqyduk::Device;
 using merqyduk::Encoding;
 using merqyduk::Intent;
 using merqyduk::Primaries;
@@ -36,6 +37,9 @@ static bool save(const char *name, const Encoding &encoding) {
 
 int main() {
     bool ok = save("srgb.icc", Encoding::srgb());
+
+    // The same with maker and model of a device. The profile has another id.
+    ok &= save("device.icc", Encoding::srgb(Intent::perceptual, Device::of("ACME", "PLT1")));
 
     // An own white, own primaries and a display gamma of 2.2, and how many of the profile's numbers were rounded.
     const Encoding own = Encoding::rgb(White::own(0.3457f, 0.3585f),

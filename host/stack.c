@@ -9,7 +9,7 @@
 enum { DEPTH = 16384, PAINT = 0xa5, LONG_DATA = 3000 };
 
 struct arguments {
-    uint32_t white, primaries, curve, intent;
+    uint32_t white, primaries, curve, intent, maker, model;
     float floats[9]; /* wx wy rx ry gx gy bx by gamma */
     const uint8_t *job;
     size_t job_len, i;
@@ -83,6 +83,21 @@ static void length_rgb_counted(struct arguments *a) {
 }
 
 static void length_xyb_counted(struct arguments *a) { merqyduk_length_xyb_counted(a->intent, sizeof a->out, &a->rounded); }
+
+static void gray_device(struct arguments *a) {
+    merqyduk_write_gray_device(a->white, a->floats[0], a->floats[1], a->curve, a->floats[8], a->intent, a->maker, a->model, a->out,
+                               sizeof a->out);
+}
+
+static void rgb_device(struct arguments *a) {
+    const float *f = a->floats;
+    merqyduk_write_rgb_device(a->white, f[0], f[1], a->primaries, f[2], f[3], f[4], f[5], f[6], f[7], a->curve, f[8], a->intent,
+                              a->maker, a->model, a->out, sizeof a->out);
+}
+
+static void xyb_device(struct arguments *a) {
+    merqyduk_write_xyb_device(a->intent, a->maker, a->model, a->out, sizeof a->out);
+}
 
 static void job(struct arguments *a) {
     uint32_t entries;
@@ -212,6 +227,9 @@ int main(void) {
                  {"merqyduk_length_gray_counted", length_gray_counted},
                  {"merqyduk_length_rgb_counted", length_rgb_counted},
                  {"merqyduk_length_xyb_counted", length_xyb_counted},
+                 {"merqyduk_write_gray_device", gray_device},
+                 {"merqyduk_write_rgb_device", rgb_device},
+                 {"merqyduk_write_xyb_device", xyb_device},
                  {"merqyduk_job", job},
                  {"merqyduk_job_profile", job_profile},
                  {"merqyduk_read", read_plan},
@@ -235,6 +253,8 @@ int main(void) {
         a.primaries = random_bits() % 4;
         a.curve = random_bits() % 7;
         a.intent = random_bits() % 4;
+        a.maker = random_bits();
+        a.model = random_bits();
         for (int i = 0; i < 9; i++) a.floats[i] = random_float();
         a.i = random_bits() % 4;
         fill_job(&a, bytes);

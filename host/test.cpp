@@ -2,8 +2,9 @@
 // without an output for each of them; outputs, jobs, files and texts that end at a page that may not be touched; numbers without meaning, and jobs
 // that are cut or have bytes left. Reads each profile back, finds its elements, and has files refused by each number. Puts files into segments of many
 // sizes and joins them, in order and out of it, whole and damaged. Types every named encoding, numbers of one's own, and texts that are no
-// description. Makes each call also with a count of numbers that were rounded, and counts them once more by their floats. Writes the accepted
-// profiles into the folder that it is given.
+// description. Makes each call also with a count of numbers that were rounded, and counts them once more by their floats. Writes each profile with
+// other makers and models, which change their own bytes and the id alone, and reads it back. Writes the accepted profiles into the folder that it
+// is given.
 #include "merqyduk.h"
 
 #include <sys/mman.h>
@@ -28,14 +29,20 @@ namespace {
 
 using Bytes = std::vector<uint8_t>;
 
+// The maker of a device and its model, four bytes each as one number.
+struct Device {
+    uint32_t maker, model;
+};
+
 // A call that writes, and, for an encoding, the one that answers the same without an output; then both with a count, and how many fixed numbers
-// of the profile are looked at for it.
+// of the profile are looked at for it; and the one that writes with maker and model.
 struct Call {
     std::function<uint32_t(uint8_t *, size_t)> write;
     std::function<uint32_t(size_t)> length;
     std::function<uint32_t(uint8_t *, size_t, uint32_t *)> write_counted;
     std::function<uint32_t(size_t, uint32_t *)> length_counted;
     uint32_t numbers;
+    std::function<uint32_t(Device, uint8_t *, size_t)> write_device;
     uint32_t operator()(uint8_t *out, size_t n) const { return write(out, n); }
 };
 
@@ -59,7 +66,10 @@ Call gray(uint32_t white, float wx, float wy, uint32_t curve, float gamma, uint3
             [=](size_t n, uint32_t *rounded) {
                 return merqyduk_length_gray_counted(white, wx, wy, curve, gamma, intent, n, rounded);
             },
-            curve == MERQYDUK_CURVE_GAMMA ? 4u : 8u};
+            curve == MERQYDUK_CURVE_GAMMA ? 4u : 8u,
+            [=](Device device, uint8_t *out, size_t n) {
+                return merqyduk_write_gray_device(white, wx, wy, curve, gamma, intent, device.maker, device.model, out, n);
+            }};
 }
 
 struct Primaries {
@@ -84,14 +94,21 @@ Call rgb(uint32_t white, float wx, float wy, uint32_t primaries, Primaries p, ui
                 return merqyduk_length_rgb_counted(white, wx, wy, primaries, p.rx, p.ry, p.gx, p.gy, p.bx, p.by, curve,
                                                    gamma, intent, n, rounded);
             },
-            curve == MERQYDUK_CURVE_GAMMA ? 22u : 26u};
+            curve == MERQYDUK_CURVE_GAMMA ? 22u : 26u,
+            [=](Device device, uint8_t *out, size_t n) {
+                return merqyduk_write_rgb_device(white, wx, wy, primaries, p.rx, p.ry, p.gx, p.gy, p.bx, p.by, curve,
+                                                 gamma, intent, device.maker, device.model, out, n);
+            }};
 }
 
 Call xyb(uint32_t intent) {
     return {[=](uint8_t *out, size_t n) { return merqyduk_write_xyb(intent, out, n); },
             [=](size_t n) { return merqyduk_length_xyb(intent, n); },
             [=](uint8_t *out, size_t n, uint32_t *rounded) { return merqyduk_write_xyb_counted(intent, out, n, rounded); },
-            [=](size_t n, uint32_t *rounded) { return merqyduk_length_xyb_counted(intent, n, rounded); }, 45};
+            [=](size_t n, uint32_t *rounded) { return merqyduk_length_xyb_counted(intent, n, rounded); }, 45,
+            [=](Device device, uint8_t *out, size_t n) {
+                return merqyduk_write_xyb_device(intent, device.maker, device.model, out, n);
+            }};
 }
 
 // An output of n bytes between two pages that may not be touched: it ends where the second begins, or starts where the first ends.
@@ -134,12 +151,99 @@ std::shared_ptr<Guarded> guarded(const Bytes &bytes, bool at_end) {
     return kept;
 }
 
+// ---- files changed
+
+Bytes with(Bytes bytes, size_t at, uint8_t byte) {
+    bytes[at] = byte;
+    return bytes;
+}
+
+Bytes with_number(Bytes bytes, size_t at, int32_t number) {
+    for (size_t i = 0; i < 4; i++) bytes[at + i] = uint8_t(uint32_t(number) >> (24 - 8 * i));
+    return bytes;
+}
+
+// A block of MD5, by RFC 1321.
+void md5_block(const uint8_t *block, uint32_t state[4]) {
+    const uint32_t turns[4][4] = {{7, 12, 17, 22}, {5, 9, 14, 20}, {4, 11, 16, 23}, {6, 10, 15, 21}};
+    uint32_t a = state[0], b = state[1], c = state[2], d = state[3];
+    for (uint32_t i = 0; i < 64; i++) {
+        const uint32_t mixed[4] = {(b & c) | (~b & d), (d & b) | (~d & c), b ^ c ^ d, c ^ (b | ~d)};
+        const uint32_t places[4] = {i, 5 * i + 1, 3 * i + 5, 7 * i};
+        const uint8_t *at = block + 4 * (places[i / 16] % 16);
+        const uint32_t sine = uint32_t(std::floor(std::fabs(std::sin(i + 1.0)) * 4294967296.0));
+        const uint32_t sum = a + mixed[i / 16] + sine +
+                             (at[0] | uint32_t(at[1]) << 8 | uint32_t(at[2]) << 16 | uint32_t(at[3]) << 24);
+        const uint32_t turn = turns[i / 16][i % 4];
+        a = d;
+        d = c;
+        c = b;
+        b += sum << turn | sum >> (32 - turn);
+    }
+    state[0] += a;
+    state[1] += b;
+    state[2] += c;
+    state[3] += d;
+}
+
+// The file with its right id.
+Bytes with_id(Bytes f) {
+    Bytes hashed = f;
+    for (size_t i = 44; i < 100; i++)
+        if (i < 48 || (i >= 64 && i < 68) || i >= 84) hashed[i] = 0;
+    const uint64_t bits = 8 * uint64_t(hashed.size());
+    hashed.push_back(128);
+    while (hashed.size() % 64 != 56) hashed.push_back(0);
+    for (int i = 0; i < 8; i++) hashed.push_back(uint8_t(bits >> (8 * i)));
+    uint32_t state[4] = {0x67452301, 0xefcdab89, 0x98badcfe, 0x10325476};
+    for (size_t at = 0; at < hashed.size(); at += 64) md5_block(&hashed[at], state);
+    for (size_t i = 0; i < 16; i++) f[84 + i] = uint8_t(state[i / 4] >> (8 * (i % 4)));
+    return f;
+}
+
+// ---- maker and model
+
+static_assert(MERQYDUK_MAKER_OFFSET == 48 && MERQYDUK_MODEL_OFFSET == 52, "where maker and model stand");
+
+const Device acme = {0x41434d45, 0x504c5431}; // the letters ACME and PLT1
+
+// Zeros, ones in one or both of the two, letters, these exchanged, the names of tags, and each bit alone.
+std::vector<Device> all_devices() {
+    const uint32_t ones = 0xffffffffu;
+    std::vector<Device> all = {{0, 0}, {ones, 0}, {0, ones}, {ones, ones}, acme, {acme.model, acme.maker}, {0x64657363, 0x77747074}};
+    for (int bit = 0; bit < 32; bit++) all.insert(all.end(), {{1u << bit, 0}, {0, 1u << bit}});
+    return all;
+}
+
+const std::vector<Device> devices = all_devices();
+
+// One of them, another each time.
+Device next_device() {
+    static size_t turn = 0;
+    return devices[turn++ % devices.size()];
+}
+
+// The file with this maker and model, and the id that it then has.
+Bytes with_device(const Bytes &f, Device device) {
+    return with_id(with_number(with_number(f, 48, int32_t(device.maker)), 52, int32_t(device.model)));
+}
+
+// What a call with maker and model leaves in an output, where the one without them answers so and leaves these bytes. With zeros it is the same.
+Bytes left_with(Bytes left, uint32_t answer, Device device) {
+    if (answer < MERQYDUK_MIN_PROFILE || (device.maker == 0 && device.model == 0)) return left;
+    const Bytes profile = with_device(Bytes(left.begin(), left.begin() + answer), device);
+    std::copy(profile.begin(), profile.end(), left.begin());
+    return left;
+}
+
+// ---- profiles written
+
 Call entry(const Bytes &job, size_t i) {
     auto kept = guarded(job, true);
     return {[=, n = job.size()](uint8_t *out, size_t out_len) {
                 return merqyduk_job_profile(kept->data(), n, i, out, out_len);
             },
-            nullptr, nullptr, nullptr, 0};
+            nullptr, nullptr, nullptr, 0, nullptr};
 }
 
 // How many numbers of an accepted encoding were rounded, as it is told without an output.
@@ -180,10 +284,27 @@ void same_counted(const std::string &name, uint32_t answer, const Call &call, co
     expect(std::equal(left, left + n, out.data()), name + ", counted, leaves the same output");
 }
 
+// The call with maker and model answers the same. What it leaves in an output of its own differs by these and the id alone.
+void same_device(const std::string &name, uint32_t answer, const Call &call, Device device, const uint8_t *left, size_t n, bool at_end) {
+    Guarded out(n, at_end);
+    expect(call.write_device(device, out.data(), n) == answer, name + " with maker and model answered " + std::to_string(answer));
+    const Bytes expected = left_with(Bytes(left, left + n), answer, device);
+    expect(std::equal(expected.begin(), expected.end(), out.data()), name + " with maker and model leaves the same output else");
+}
+
+// The other calls that write the encoding: with a count, and with maker and model, zeros and others each time.
+void same_by_others(const std::string &name, uint32_t answer, const Call &call, const uint8_t *left, size_t n, bool at_end) {
+    same_counted(name, answer, call, left, n, at_end);
+    if (!call.write_device) return;
+    for (const Device &device : {Device{0, 0}, next_device()}) same_device(name, answer, call, device, left, n, at_end);
+}
+
 void with_no_output(const std::string &name, uint32_t number, const Call &call) {
     expect(call(nullptr, 0) == number, name + " with no output");
     if (call.write_counted)
         has_count(name + " with no output", number, call, [&](uint32_t *count) { return call.write_counted(nullptr, 0, count); });
+    if (call.write_device)
+        expect(call.write_device(next_device(), nullptr, 0) == number, name + " with maker and model and no output");
 }
 
 void refuses(const std::string &name, uint32_t number, const Call &call) {
@@ -191,7 +312,7 @@ void refuses(const std::string &name, uint32_t number, const Call &call) {
         Guarded out(n, true);
         expect(call(out.data(), n) == number, name + " refused " + std::to_string(number));
         expect(out.unchanged_from(0), name + " leaves the output unchanged");
-        same_counted(name, number, call, out.data(), n, true);
+        same_by_others(name, number, call, out.data(), n, true);
         tells(name, number, n, call);
     }
     with_no_output(name, number, call);
@@ -205,7 +326,7 @@ std::vector<uint8_t> writes(const std::string &name, uint32_t length, const Call
         Guarded out(n, n % 2 == 0);
         expect(call(out.data(), n) == 9, name + " refused 9 at " + std::to_string(n));
         expect(out.unchanged_from(0), name + " leaves a short output unchanged");
-        same_counted(name, 9, call, out.data(), n, n % 2 == 0);
+        same_by_others(name, 9, call, out.data(), n, n % 2 == 0);
         tells(name, 9, n, call);
     }
     std::vector<uint8_t> first;
@@ -214,7 +335,7 @@ std::vector<uint8_t> writes(const std::string &name, uint32_t length, const Call
             Guarded out(n, at_end);
             expect(call(out.data(), n) == length, name + " has " + std::to_string(length));
             expect(out.unchanged_from(length), name + " leaves the rest unchanged");
-            same_counted(name, length, call, out.data(), n, at_end);
+            same_by_others(name, length, call, out.data(), n, at_end);
             std::vector<uint8_t> profile(out.data(), out.data() + length);
             if (first.empty()) first = profile;
             expect(first == profile, name + " is the same each time");
@@ -249,18 +370,20 @@ std::string text(const std::vector<uint8_t> &f) {
 // ---- a profile read back
 
 // The struct as `planRecord` of crates/plan_record lays it out.
-static_assert(sizeof(merqyduk_plan) == 476, "the size of the struct");
+static_assert(sizeof(merqyduk_plan) == 484, "the size of the struct");
 static_assert(offsetof(merqyduk_plan, kind) == 0 && offsetof(merqyduk_plan, intent) == 4, "kind and intent");
-static_assert(offsetof(merqyduk_plan, curve) == 8 && offsetof(merqyduk_plan, gamma) == 12, "the curve");
-static_assert(offsetof(merqyduk_plan, cicp) == 16, "cicp");
-static_assert(offsetof(merqyduk_plan, white_x) == 20 && offsetof(merqyduk_plan, white_z) == 24, "the white");
-static_assert(offsetof(merqyduk_plan, chad) == 28 && offsetof(merqyduk_plan, columns) == 64, "chad and columns");
-static_assert(offsetof(merqyduk_plan, letters) == 100 && offsetof(merqyduk_plan, text) == 104, "the text");
+static_assert(offsetof(merqyduk_plan, maker) == 8 && offsetof(merqyduk_plan, model) == 12, "maker and model");
+static_assert(offsetof(merqyduk_plan, curve) == 16 && offsetof(merqyduk_plan, gamma) == 20, "the curve");
+static_assert(offsetof(merqyduk_plan, cicp) == 24, "cicp");
+static_assert(offsetof(merqyduk_plan, white_x) == 28 && offsetof(merqyduk_plan, white_z) == 32, "the white");
+static_assert(offsetof(merqyduk_plan, chad) == 36 && offsetof(merqyduk_plan, columns) == 72, "chad and columns");
+static_assert(offsetof(merqyduk_plan, letters) == 108 && offsetof(merqyduk_plan, text) == 112, "the text");
 
 // What was asked of the writer. The kinds are gray 1, RGB 2 and XYB 3.
 struct Asked {
     uint32_t kind, intent, curve;
     float gamma;
+    Device device = {0, 0};
 };
 
 // Nine numbers of a file, from bytes of elements one after another; zeros where there are none.
@@ -281,6 +404,8 @@ Bytes numbers_of(const Bytes &f, const char *signature) {
 merqyduk_plan plan_of(const Bytes &f, const Asked &asked) {
     merqyduk_plan plan{};
     plan.kind = asked.kind;
+    plan.maker = asked.device.maker;
+    plan.model = asked.device.model;
     if (asked.kind == 3) return plan;
     plan.intent = asked.intent;
     plan.curve = asked.curve;
@@ -316,16 +441,16 @@ void reads(const std::string &name, const Bytes &f, const Asked &asked) {
     expect(merqyduk_read(f.data(), f.size(), nullptr, 0) == 9, name + " read into no record");
     for (bool at_end : {false, true}) {
         auto file = guarded(f, at_end);
-        for (size_t n : {size_t(0), size_t(1), size_t(104), size_t(475)}) {
+        for (size_t n : {size_t(0), size_t(1), size_t(112), size_t(483)}) {
             Guarded record(n, at_end);
             expect(merqyduk_read(file->data(), f.size(), record.data(), n) == 9, name + " read into a short record");
             expect(record.unchanged_from(0), name + " leaves a short record unchanged");
         }
-        for (size_t n : {size_t(476), size_t(477), size_t(4096)}) {
+        for (size_t n : {size_t(484), size_t(485), size_t(4096)}) {
             Guarded record(n, at_end);
             expect(merqyduk_read(file->data(), f.size(), record.data(), n) == 0, name + " read into a long record");
-            expect(std::memcmp(record.data(), &expected, 476) == 0, name + " has its plan at the front");
-            expect(record.unchanged_from(476), name + " leaves the rest of the record unchanged");
+            expect(std::memcmp(record.data(), &expected, 484) == 0, name + " has its plan at the front");
+            expect(record.unchanged_from(484), name + " leaves the rest of the record unchanged");
         }
     }
 }
@@ -347,24 +472,17 @@ void finds(const std::string &name, const Bytes &f) {
     }
 }
 
-// A profile that is written, read back, and its elements found.
-Bytes profile(const std::string &name, uint32_t length, const Call &call, const Asked &asked) {
+// A profile that is written, read back, and its elements found, with each maker and model.
+Bytes profile(const std::string &name, uint32_t length, const Call &call, Asked asked) {
     const Bytes f = writes(name, length, call);
-    reads(name, f, asked);
-    finds(name, f);
+    for (const Device &device : devices) {
+        same_device(name, length, call, device, f.data(), f.size(), true);
+        const Bytes its = left_with(f, length, device);
+        asked.device = device;
+        reads(name, its, asked);
+        finds(name, its);
+    }
     return f;
-}
-
-// ---- files that are refused
-
-Bytes with(Bytes bytes, size_t at, uint8_t byte) {
-    bytes[at] = byte;
-    return bytes;
-}
-
-Bytes with_number(Bytes bytes, size_t at, int32_t number) {
-    for (size_t i = 0; i < 4; i++) bytes[at + i] = uint8_t(uint32_t(number) >> (24 - 8 * i));
-    return bytes;
 }
 
 // ---- segments, as 02 has them
@@ -457,11 +575,13 @@ void joins(const std::string &name, uint32_t answer, const Segments &parts, cons
     }
 }
 
+// ---- files that are refused
+
 // The reader's number comes before 9; nothing is found in such a file, it is not put into segments, and from segments it does not come out.
 void refuses_file(const std::string &name, uint32_t number, const Bytes &f) {
     for (bool at_end : {false, true}) {
         auto file = guarded(f, at_end);
-        for (size_t n : {size_t(0), size_t(475), size_t(476), size_t(4096)}) {
+        for (size_t n : {size_t(0), size_t(483), size_t(484), size_t(4096)}) {
             Guarded record(n, at_end);
             expect(merqyduk_read(file->data(), f.size(), record.data(), n) == number,
                    name + " refused " + std::to_string(number));
@@ -493,6 +613,8 @@ void bad_files(const Bytes &srgb, const Bytes &gray, const Bytes &xyb) {
     refuses_file("another class", 23, with(srgb, 12, 'x'));
     refuses_file("gray's space in an RGB file", 23, with(srgb, 16, 'G'));
     refuses_file("another signature", 23, with(srgb, 36, 'x'));
+    refuses_file("a byte before the maker", 23, with_id(with(srgb, 47, 1)));
+    refuses_file("a byte after the model", 23, with_id(with(srgb, 56, 1)));
     refuses_file("intent 4", 24, with(srgb, 67, 4));
     refuses_file("XYB Relative", 24, with(xyb, 67, 1));
     refuses_file("another number of tags", 25, with(srgb, 131, uint8_t(srgb[131] - 1)));
@@ -509,47 +631,28 @@ void bad_files(const Bytes &srgb, const Bytes &gray, const Bytes &xyb) {
     Bytes no_id = srgb;
     std::fill(no_id.begin() + 84, no_id.begin() + 100, 0);
     refuses_file("no id", 28, no_id);
+    // The id is of maker and model too.
+    for (const Bytes *f : {&srgb, &gray, &xyb})
+        for (size_t at = 48; at < 56; at++) refuses_file("another maker or model", 28, with(*f, at, uint8_t((*f)[at] ^ 1)));
+}
+
+// Each bit of the header changed, with the id that the file then has. Maker and model may be any, and the intent up to 3 but in XYB.
+void header_bits(const Bytes &f, uint32_t kind) {
+    for (size_t bit = 0; bit < 8 * 128; bit++) {
+        const size_t at = bit / 8;
+        const Bytes changed = with_id(with(f, at, uint8_t(f[at] ^ 1 << bit % 8)));
+        const bool device = at >= 48 && at < 56, intent = at >= 64 && at < 68, id = at >= 84 && at < 100;
+        const bool known = kind != 3 && word(changed, 64) <= 3;
+        const uint32_t expected = device || id || (intent && known) ? 0 : at < 4 ? 22 : intent ? 24 : 23;
+        merqyduk_plan plan{};
+        expect(merqyduk_read(changed.data(), changed.size(), &plan, sizeof plan) == expected,
+               "bit " + std::to_string(bit) + " of a header answered " + std::to_string(expected));
+        if (expected == 0)
+            expect(plan.maker == word(changed, 48) && plan.model == word(changed, 52), "maker and model of a header");
+    }
 }
 
 // ---- files that no encoding leads to, for the lengths that they have
-
-// A block of MD5, by RFC 1321.
-void md5_block(const uint8_t *block, uint32_t state[4]) {
-    const uint32_t turns[4][4] = {{7, 12, 17, 22}, {5, 9, 14, 20}, {4, 11, 16, 23}, {6, 10, 15, 21}};
-    uint32_t a = state[0], b = state[1], c = state[2], d = state[3];
-    for (uint32_t i = 0; i < 64; i++) {
-        const uint32_t mixed[4] = {(b & c) | (~b & d), (d & b) | (~d & c), b ^ c ^ d, c ^ (b | ~d)};
-        const uint32_t places[4] = {i, 5 * i + 1, 3 * i + 5, 7 * i};
-        const uint8_t *at = block + 4 * (places[i / 16] % 16);
-        const uint32_t sine = uint32_t(std::floor(std::fabs(std::sin(i + 1.0)) * 4294967296.0));
-        const uint32_t sum = a + mixed[i / 16] + sine +
-                             (at[0] | uint32_t(at[1]) << 8 | uint32_t(at[2]) << 16 | uint32_t(at[3]) << 24);
-        const uint32_t turn = turns[i / 16][i % 4];
-        a = d;
-        d = c;
-        c = b;
-        b += sum << turn | sum >> (32 - turn);
-    }
-    state[0] += a;
-    state[1] += b;
-    state[2] += c;
-    state[3] += d;
-}
-
-// The file with its right id.
-Bytes with_id(Bytes f) {
-    Bytes hashed = f;
-    for (size_t i = 44; i < 100; i++)
-        if (i < 48 || (i >= 64 && i < 68) || i >= 84) hashed[i] = 0;
-    const uint64_t bits = 8 * uint64_t(hashed.size());
-    hashed.push_back(128);
-    while (hashed.size() % 64 != 56) hashed.push_back(0);
-    for (int i = 0; i < 8; i++) hashed.push_back(uint8_t(bits >> (8 * i)));
-    uint32_t state[4] = {0x67452301, 0xefcdab89, 0x98badcfe, 0x10325476};
-    for (size_t at = 0; at < hashed.size(); at += 64) md5_block(&hashed[at], state);
-    for (size_t i = 0; i < 16; i++) f[84 + i] = uint8_t(state[i / 4] >> (8 * (i % 4)));
-    return f;
-}
 
 // The file of the same plan but for a text of so many letters: all that stands after the text moves.
 Bytes with_letters(const Bytes &f, size_t letters) {
@@ -758,6 +861,9 @@ void long_data(const Bytes &from, size_t length, const std::vector<size_t> &size
     joins_in_any_order(name + " with intent 4", 24, with(data, 67, 4), sizes);
     joins_in_any_order(name + " of another class", 23, with(data, 12, 'x'), sizes);
     joins_in_any_order(name + " with a reserved byte", 23, with(data, 127, 1), sizes);
+    joins_in_any_order(name + " with maker and model", 25, with_device(data, acme), sizes);
+    joins_in_any_order(name + " with a byte before the maker", 23, with(data, 47, 1), sizes);
+    joins_in_any_order(name + " with a byte after the model", 23, with(data, 56, 1), sizes);
     joins_in_any_order(name + " with another size field", 22, with(data, 0, 1), sizes);
     joins_in_any_order(name + " with the size field of the file", 22, with_number(data, 0, int32_t(from.size())), sizes);
     // The first that applies.
@@ -786,7 +892,8 @@ void most_data(const Bytes &srgb) {
     const struct {
         uint32_t number;
         Bytes data;
-    } all[] = {{25, data}, {24, with(data, 67, 4)}, {23, with(data, 12, 'x')}, {22, with(data, 3, uint8_t(data[3] + 1))}};
+    } all[] = {{25, data}, {25, with_device(data, acme)}, {24, with(data, 67, 4)}, {23, with(data, 12, 'x')},
+               {22, with(data, 3, uint8_t(data[3] + 1))}};
     Bytes out(data.size(), 7);
     const Bytes before = out;
     for (const auto &one : all) {
@@ -938,7 +1045,7 @@ void vast_lengths(const Bytes &f) {
     expect(std::equal(f.begin(), f.end(), lent) && lent[f.size()] == 0, "and its bytes");
 }
 
-// The profile of sRGB in such an output, written with a count and without.
+// The profile of sRGB in such an output, written with a count, with maker and model, and without.
 void vast_output(const Bytes &srgb, const Call &call) {
     const size_t length = (size_t(1) << 32) + 5;
     Vast vast;
@@ -948,12 +1055,23 @@ void vast_output(const Bytes &srgb, const Call &call) {
     lent = vast.cleared();
     has_count("sRGB in a vast output", uint32_t(srgb.size()), call, [&](uint32_t *count) { return call.write_counted(lent, length, count); });
     expect(std::equal(srgb.begin(), srgb.end(), lent) && lent[srgb.size()] == 0, "and its bytes, counted");
+    lent = vast.cleared();
+    const Bytes its = with_device(srgb, acme);
+    expect(call.write_device(acme, lent, length) == its.size(), "sRGB with maker and model in a vast output");
+    expect(std::equal(its.begin(), its.end(), lent) && lent[its.size()] == 0, "and its bytes, with maker and model");
 }
 
 void segments(const Bytes &srgb, const Bytes &gray, const Bytes &xyb) {
-    put_into_segments("sRGB", srgb);
-    put_into_segments("gray", gray);
-    put_into_segments("XYB", xyb);
+    for (const Device &device : {Device{0, 0}, acme}) {
+        const struct {
+            std::string name;
+            Bytes bytes;
+        } files[] = {{"sRGB", with_device(srgb, device)}, {"gray", with_device(gray, device)}, {"XYB", with_device(xyb, device)}};
+        for (const auto &file : files) {
+            put_into_segments(file.name, file.bytes);
+            good_segments(file.name, file.bytes);
+        }
+    }
     numbers_of_segments(srgb, gray);
     // The number of the file comes first, then 53, then 55.
     expect(merqyduk_write_segments(nullptr, 0, 0, nullptr, 0) == 21, "no file, no size and no output");
@@ -961,9 +1079,6 @@ void segments(const Bytes &srgb, const Bytes &gray, const Bytes &xyb) {
     expect(merqyduk_write_segments(gray.data(), gray.size(), 1, nullptr, 0) == 53, "too many segments and no output");
     expect(merqyduk_write_segments(gray.data(), gray.size(), 2, nullptr, 0) == 55, "no output");
 
-    good_segments("sRGB", srgb);
-    good_segments("gray", gray);
-    good_segments("XYB", xyb);
     good_segments("the longest file", with_letters(srgb, 372));
     for (const Bytes *f : {&srgb, &gray, &xyb}) {
         bad_segments(*f);
@@ -1060,7 +1175,7 @@ void bad_jobs() {
 
 using Encoding = merqyduk_encoding;
 
-static_assert(sizeof(Encoding) == 56, "the struct has no gaps, so that its bytes can be compared");
+static_assert(sizeof(Encoding) == 64, "the struct has no gaps, so that its bytes can be compared");
 
 float float_of(uint32_t bits) {
     float value;
@@ -1074,7 +1189,13 @@ std::vector<float Encoding::*> float_members() {
     return {&E::wx, &E::wy, &E::rx, &E::ry, &E::gx, &E::gy, &E::bx, &E::by, &E::gamma};
 }
 
-// The bytes of a record as `encodingRecord` of crates/encoding_record has them.
+Encoding with_device(Encoding e, Device device) {
+    e.maker = device.maker;
+    e.model = device.model;
+    return e;
+}
+
+// The bytes of a record as `encodingRecord` of crates/encoding_record has them. Maker and model are not in it.
 Bytes record_of(const Encoding &e) {
     Bytes record;
     auto number = [&](uint32_t n) { record.push_back(uint8_t(n)); };
@@ -1096,7 +1217,7 @@ Bytes record_of(const Encoding &e) {
     return record;
 }
 
-// The calls that write the encoding and tell its length, with the numbers of the struct.
+// The calls that write the encoding and tell its length, with the numbers of the struct but for maker and model.
 Call call_of(const Encoding &e) {
     if (e.space == MERQYDUK_SPACE_GRAY) return gray(e.white, e.wx, e.wy, e.curve, e.gamma, e.intent);
     if (e.space == MERQYDUK_SPACE_XYB) return xyb(e.intent);
@@ -1157,6 +1278,17 @@ void refuses_text(const std::string &text, uint32_t number) {
     expect(std::memcmp(&e, &before, sizeof e) == 0, shown(text) + " leaves the struct unchanged");
 }
 
+// The struct answers so in n bytes, with a count and without, and leaves these bytes; it tells the same without an output.
+void same_struct(const std::string &name, uint32_t answer, const Call &call, const Encoding &e, const Bytes &left, size_t n) {
+    Bytes plain(left.size(), 7), counted = plain;
+    expect(merqyduk_write(&e, plain.data(), n) == answer, name + " is written");
+    expect(plain == left, name + " has the profile of its numbers");
+    expect(merqyduk_length(&e, n) == answer, name + " tells its length");
+    has_count(name, answer, call, [&](uint32_t *count) { return merqyduk_write_counted(&e, counted.data(), n, count); });
+    expect(counted == left, name + ", counted, has the profile of its numbers");
+    has_count(name + " told", answer, call, [&](uint32_t *count) { return merqyduk_length_counted(&e, n, count); });
+}
+
 // The encoding from a text writes what the calls write that are given the same numbers, and tells the same lengths.
 void parses(const std::string &text, const Encoding &expected) {
     const std::string name = shown(text);
@@ -1166,19 +1298,13 @@ void parses(const std::string &text, const Encoding &expected) {
     expect(merqyduk_parse(text.data(), text.size(), &e) == 0, name + " is read");
     expect(std::memcmp(&e, &expected, sizeof e) == 0, name + " has the encoding that was meant");
     const Call call = call_of(expected);
-    Bytes direct(1300, 7), from_struct = direct;
+    Bytes direct(1300, 7);
     const uint32_t length = call(direct.data(), 1200);
     for (size_t n : {size_t(0), size_t(length) - 1, size_t(length), size_t(1200)}) {
         std::fill(direct.begin(), direct.end(), 7);
-        from_struct = direct;
         const uint32_t answer = call(direct.data(), n);
-        expect(merqyduk_write(&e, from_struct.data(), n) == answer, name + " is written");
-        expect(from_struct == direct, name + " has the profile of its numbers");
-        expect(merqyduk_length(&e, n) == call.length(n), name + " tells its length");
-        std::fill(from_struct.begin(), from_struct.end(), 7);
-        has_count(name, answer, call, [&](uint32_t *count) { return merqyduk_write_counted(&e, from_struct.data(), n, count); });
-        expect(from_struct == direct, name + ", counted, has the profile of its numbers");
-        has_count(name + " told", answer, call, [&](uint32_t *count) { return merqyduk_length_counted(&e, n, count); });
+        for (const Device &device : {Device{0, 0}, next_device()})
+            same_struct(name, answer, call, with_device(e, device), left_with(direct, answer, device), n);
     }
     expect(merqyduk_length(&e, SIZE_MAX) == length, name + " tells its length without a bound");
 }
@@ -1503,7 +1629,7 @@ void encoding_structs() {
         e = before;
         const bool known = space >= 1 && space <= 3;
         expect(merqyduk_encoding_from_record(record.data(), &e) == (known ? 0u : 43u), "a record of space " + std::to_string(space));
-        if (known) expect(record_of(e) == record, "a record has all its bytes in the struct");
+        if (known) expect(record_of(e) == record && e.maker == 0 && e.model == 0, "a record has all its bytes in the struct");
         else expect(std::memcmp(&e, &before, sizeof e) == 0, "a record without meaning leaves the struct unchanged");
     }
     // Without a meaning is first the space, even where the other numbers have none.
@@ -1514,7 +1640,11 @@ void encoding_structs() {
                     {[=](uint8_t *out, size_t n) { return merqyduk_write(&e, out, n); },
                      [=](size_t n) { return merqyduk_length(&e, n); },
                      [=](uint8_t *out, size_t n, uint32_t *count) { return merqyduk_write_counted(&e, out, n, count); },
-                     [=](size_t n, uint32_t *count) { return merqyduk_length_counted(&e, n, count); }, 0});
+                     [=](size_t n, uint32_t *count) { return merqyduk_length_counted(&e, n, count); }, 0,
+                     [=](Device device, uint8_t *out, size_t n) {
+                         const Encoding its = with_device(e, device);
+                         return merqyduk_write(&its, out, n);
+                     }});
         }
     }
     // What a space does not use is not read.
@@ -1714,11 +1844,12 @@ std::vector<int32_t> fixed_numbers(const Bytes &f) {
 // Whether the counted calls answer and write what the others do, and tell how many of the floats are not whole; these floats have the fixed numbers
 // of the profile. Those that are accepted are counted in `seen`.
 bool counted_right(const Encoding &e, std::map<uint32_t, int> &seen) {
+    const Call call = call_of(e);
     Bytes plain(1200, 7), counted = plain;
     uint32_t written = 77, told = 77;
-    const uint32_t answer = merqyduk_write(&e, plain.data(), plain.size());
-    if (merqyduk_length(&e, plain.size()) != answer || merqyduk_length_counted(&e, plain.size(), &told) != answer ||
-        merqyduk_write_counted(&e, counted.data(), counted.size(), &written) != answer || counted != plain || written != told)
+    const uint32_t answer = call(plain.data(), plain.size());
+    if (call.length(plain.size()) != answer || call.length_counted(plain.size(), &told) != answer ||
+        call.write_counted(counted.data(), counted.size(), &written) != answer || counted != plain || written != told)
         return false;
     if (answer < MERQYDUK_MIN_PROFILE) return told == 77;
     const Floats floats = floats_of(e);
@@ -1726,7 +1857,7 @@ bool counted_right(const Encoding &e, std::map<uint32_t, int> &seen) {
     for (float value : floats) fixed.push_back(int32_t(std::lround(double(value) * 65536)));
     seen[told]++;
     plain.resize(answer);
-    return told == not_whole(floats) && floats.size() == call_of(e).numbers && fixed == fixed_numbers(plain);
+    return told == not_whole(floats) && floats.size() == call.numbers && fixed == fixed_numbers(plain);
 }
 
 void known_gray_counts() {
@@ -1799,33 +1930,47 @@ void named_counts() {
         for (uint32_t primaries = 0; primaries < 4; primaries++) other_curves(white, primaries, {0.69f, 0.31f, 0.21f, 0.71f, 0.14f, 0.05f});
 }
 
-// Encodings by chance: coordinates and gammas in range, of few digits, so that some are whole, near zero, so that others become large, and any.
-void counts_by_chance(uint32_t space, const std::vector<uint32_t> &counts) {
-    uint64_t state = space;
-    const auto below = [&](size_t n) {
-        state = state * 6364136223846793005u + 1442695040888963407u;
-        return uint32_t((state >> 32) % n);
-    };
-    const auto number = [&] {
+// Encodings of a space by chance: coordinates and gammas in range, of few digits, so that some are whole, near zero, so that others become large, and
+// any.
+class Chance {
+  public:
+    explicit Chance(uint32_t space) : space_(space), state_(space) {}
+
+    uint32_t below(size_t n) {
+        state_ = state_ * 6364136223846793005u + 1442695040888963407u;
+        return uint32_t((state_ >> 32) % n);
+    }
+    uint32_t any() { return below(size_t(1) << 32); }
+    Encoding encoding(uint32_t intent) {
+        Encoding e = named(space_, MERQYDUK_WHITE_OWN, MERQYDUK_PRIMARIES_OWN, MERQYDUK_CURVE_GAMMA, intent);
+        if (below(8) == 0) e.white = below(3);
+        if (below(2) == 0) e.primaries = below(3);
+        if (below(2) == 0) e.curve = below(6);
+        for (float Encoding::*member : float_members()) e.*member = number();
+        return e;
+    }
+
+  private:
+    float number() {
         const float in_range = float(below(1 << 24)) / (1 << 24);
         switch (below(8)) {
         case 0: return float(below(257)) / 256;
         case 1: return std::ldexp(1.0f, 4 - int(below(24)));
         case 2: return std::ldexp(in_range, -int(below(20)));
-        case 3: return float_of(below(size_t(1) << 32));
+        case 3: return float_of(any());
         default: return in_range;
         }
-    };
+    }
+
+    uint32_t space_;
+    uint64_t state_;
+};
+
+void counts_by_chance(uint32_t space, const std::vector<uint32_t> &counts) {
+    Chance chance(space);
     std::map<uint32_t, int> seen;
     bool all_right = true;
-    for (int n = 0; n < 200000; n++) {
-        Encoding e = named(space, MERQYDUK_WHITE_OWN, MERQYDUK_PRIMARIES_OWN, MERQYDUK_CURVE_GAMMA, uint32_t(n) % 4);
-        if (below(8) == 0) e.white = below(3);
-        if (below(2) == 0) e.primaries = below(3);
-        if (below(2) == 0) e.curve = below(6);
-        for (float Encoding::*member : float_members()) e.*member = number();
-        all_right = counted_right(e, seen) && all_right;
-    }
+    for (uint32_t n = 0; n < 200000; n++) all_right = counted_right(chance.encoding(n % 4), seen) && all_right;
     expect(all_right, "counts by chance in space " + std::to_string(space));
     for (uint32_t count : counts)
         expect(seen[count] > 20, "encodings by chance of space " + std::to_string(space) + " with the count " + std::to_string(count));
@@ -1836,6 +1981,44 @@ void numbers_that_were_rounded() {
     named_counts();
     counts_by_chance(MERQYDUK_SPACE_GRAY, {0, 1, 2, 3, 5, 6, 7});
     counts_by_chance(MERQYDUK_SPACE_RGB, {11, 12, 13, 14, 15, 16, 17, 18, 19, 20, 21, 22, 23, 24, 25});
+}
+
+// ---- maker and model by chance
+
+// Whether they change their own bytes and the id alone, and no refusal; and whether the plan that is read has them and is the same else. The answers
+// are counted.
+bool device_right(const Call &call, Device device, std::map<uint32_t, int> &answers) {
+    Bytes plain(1200, 7), its = plain;
+    const uint32_t answer = call(plain.data(), plain.size());
+    answers[answer]++;
+    if (call.write_device(device, its.data(), its.size()) != answer || its != left_with(plain, answer, device)) return false;
+    if (answer < MERQYDUK_MIN_PROFILE) return true;
+    merqyduk_plan plan, its_plan;
+    if (merqyduk_read(plain.data(), answer, &plan, sizeof plan) != 0 || merqyduk_read(its.data(), answer, &its_plan, sizeof its_plan) != 0)
+        return false;
+    plan.maker = device.maker;
+    plan.model = device.model;
+    return std::memcmp(&plan, &its_plan, sizeof plan) == 0;
+}
+
+void devices_by_chance(uint32_t space, const std::vector<uint32_t> &refusals) {
+    Chance chance(space);
+    std::map<uint32_t, int> answers;
+    bool all_right = true;
+    for (uint32_t n = 0; n < 20000; n++) {
+        const Call call = call_of(chance.encoding(n % 4));
+        all_right = device_right(call, {chance.any(), chance.any()}, answers) && all_right;
+    }
+    expect(all_right, "maker and model by chance in space " + std::to_string(space));
+    for (uint32_t refusal : refusals)
+        expect(answers[refusal] > 20, "encodings by chance of space " + std::to_string(space) + " refused " + std::to_string(refusal));
+}
+
+// What the call with maker and model writes.
+Bytes written(const Call &call, Device device) {
+    Bytes f(1200);
+    f.resize(call.write_device(device, f.data(), f.size()));
+    return f;
 }
 
 void save(const std::string &folder, const std::string &name, const std::vector<uint8_t> &profile) {
@@ -1908,13 +2091,25 @@ int main(int argc, char **argv) {
     refuses("XYB intent 4", 43, xyb(4));
     refuses("intent 2^32 - 1", 43, xyb(0xffffffffu));
 
-    bad_files(srgb, gray_d65, xyb_only);
+    // For other programs to show maker and model.
+    save(folder, "srgb-device", written(rgb(0, 0, 0, 0, none, 2, 0, 0), acme));
+    save(folder, "gray-device", written(gray(0, 0, 0, 2, 0, 1), acme));
+    save(folder, "xyb-device", written(xyb(0), acme));
+
+    for (const Device &device : {Device{0, 0}, acme})
+        bad_files(with_device(srgb, device), with_device(gray_d65, device), with_device(xyb_only, device));
+    header_bits(srgb, 2);
+    header_bits(gray_d65, 1);
+    header_bits(xyb_only, 3);
     segments(srgb, gray_d65, xyb_only);
     good_jobs(srgb);
     bad_jobs();
     typed_texts();
     vast_output(srgb, rgb(0, 0, 0, 0, none, 2, 0, 0));
     numbers_that_were_rounded();
+    devices_by_chance(MERQYDUK_SPACE_GRAY, {1, 3, 7, 8});
+    devices_by_chance(MERQYDUK_SPACE_RGB, {1, 4, 7, 8});
+    devices_by_chance(MERQYDUK_SPACE_XYB, {2});
 
     std::printf("%d of %d\n", tried - failed, tried);
     return failed == 0 ? 0 : 1;

@@ -100,6 +100,7 @@ if command -v pkg-config >/dev/null; then
         $compiler -Wall -Wextra -o "$folder/profiles" "$top/example/profiles.$language" $flags || fail "example/profiles.$language was not built"
         (cd "$folder" && ./profiles >said) || fail "example/profiles.$language failed; $folder/said has what it said"
         cmp "$folder/srgb.icc" "$out/srgb.icc" || fail "example/profiles.$language writes another sRGB than the test"
+        cmp "$folder/device.icc" "$out/srgb-device.icc" || fail "example/profiles.$language writes another sRGB for a device than the test"
         [ "$(grep -c ': refused 1, the curve is PQ or HLG$' "$folder/said")" -eq 1 ] || fail "example/profiles.$language shows no refusal"
         grep -q '^own.icc: 21 of its numbers were rounded$' "$folder/said" || fail "example/profiles.$language shows no count, or another"
     done
@@ -140,6 +141,12 @@ if command -v exiftool >/dev/null; then
         [ "$said" = OK ] || fail "exiftool says of $profile: $said"
     done
     echo "exiftool: $count of $count are valid"
+    # -n: the bytes as they are, and not what exiftool knows of a maker.
+    for profile in srgb gray xyb; do
+        said=$(exiftool -n -s3 -DeviceManufacturer -DeviceModel "$out/$profile-device.icc" | tr '\n' ' ')
+        [ "$said" = 'ACME PLT1 ' ] || fail "exiftool shows another maker or model of $profile-device.icc: $said"
+    done
+    echo "exiftool: maker ACME and model PLT1 in 3 of 3"
 else
     skipped "exiftool's view of the profiles" libimage-exiftool-perl
 fi
@@ -158,5 +165,15 @@ if command -v transicc >/dev/null; then
     done
 else
     skipped "lcms2's view of the profiles" liblcms2-utils
+fi
+if printf '#include <lcms2.h>\n' | cc -fsyntax-only -x c - 2>/dev/null; then
+    cc -std=gnu11 -O2 -Wall -Wextra "$top/viewers/lcms.c" -llcms2 -lm -o "$out/lcms"
+    for profile in srgb gray xyb; do
+        said=$("$out/lcms" device "$out/$profile-device.icc") || fail "lcms2 does not open $profile-device.icc"
+        [ "$said" = "$(printf 'device\tACME\tPLT1')" ] || fail "lcms2 has another maker or model of $profile-device.icc: $said"
+    done
+    echo "lcms2: maker ACME and model PLT1 in 3 of 3"
+else
+    skipped "lcms2's view of maker and model" liblcms2-dev
 fi
 echo "host/test.sh: passed"

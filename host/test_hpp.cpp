@@ -60,6 +60,8 @@ void same(const std::string &name, const Encoding &encoding, std::uint32_t answe
     expect(std::string(profile.answer().text()) == merqyduk_refusal_text(answer), name + ": its text");
 }
 
+const Device devices[] = {Device::none(), Device::of("ACME", "PLT1"), Device::of("PLT1", "ACME"), {0xffffffffu, 0}, {0, 1}};
+
 void encodings() {
     std::uint8_t out[MERQYDUK_MAX_PROFILE];
     const White whites[] = {White::d65(), White::e(), White::dci(), White::own(0.3457f, 0.3585f)};
@@ -77,20 +79,34 @@ void encodings() {
                 std::uint32_t answer =
                     merqyduk_write_gray_counted(w, 0.3457f, 0.3585f, c, 0.45f, i, out, sizeof out, &count);
                 same("gray " + name, Encoding::gray(whites[w], curves[c], intent), answer, out, count);
+                for (const Device &d : devices) {
+                    answer = merqyduk_write_gray_device(w, 0.3457f, 0.3585f, c, 0.45f, i, d.maker, d.model, out, sizeof out);
+                    same("gray of a device " + name, Encoding::gray(whites[w], curves[c], intent, d), answer, out, count);
+                }
                 for (std::uint32_t p = 0; p < 4; p++) {
                     count = held;
                     answer = merqyduk_write_rgb_counted(w, 0.3457f, 0.3585f, p, 0.64f, 0.33f, 0.21f, 0.71f, 0.15f,
                                                         0.06f, c, 0.45f, i, out, sizeof out, &count);
                     same("RGB " + std::to_string(p) + " " + name,
                          Encoding::rgb(whites[w], primaries[p], curves[c], intent), answer, out, count);
+                    for (const Device &d : devices) {
+                        answer = merqyduk_write_rgb_device(w, 0.3457f, 0.3585f, p, 0.64f, 0.33f, 0.21f, 0.71f, 0.15f,
+                                                           0.06f, c, 0.45f, i, d.maker, d.model, out, sizeof out);
+                        same("RGB of a device " + std::to_string(p) + " " + name,
+                             Encoding::rgb(whites[w], primaries[p], curves[c], intent, d), answer, out, count);
+                    }
                 }
             }
         }
     }
     for (std::uint32_t i = 0; i < 5; i++) {
         std::uint32_t count = held;
-        const std::uint32_t answer = merqyduk_write_xyb_counted(i, out, sizeof out, &count);
+        std::uint32_t answer = merqyduk_write_xyb_counted(i, out, sizeof out, &count);
         same("XYB " + std::to_string(i), Encoding::xyb(static_cast<Intent>(i)), answer, out, count);
+        for (const Device &d : devices) {
+            answer = merqyduk_write_xyb_device(i, d.maker, d.model, out, sizeof out);
+            same("XYB of a device " + std::to_string(i), Encoding::xyb(static_cast<Intent>(i), d), answer, out, count);
+        }
     }
     // A kind that is none is refused, the one in front of the first too.
     for (int kind : {-1, 3, 255}) {
@@ -104,6 +120,12 @@ void encodings() {
     expect(write(Encoding::srgb()).rounded() == 24 && write(Encoding::xyb()).rounded() == 30, "the counts of sRGB and XYB");
     merqyduk_write_rgb(0, 0, 0, 2, 0, 0, 0, 0, 0, 0, 2, 0, 0, out, sizeof out);
     expect(std::memcmp(write(Encoding::display_p3()).data(), out, 500) == 0, "Display P3");
+    // Maker and model by their letters stand in the header as they are, bytes above 127 and zeros too.
+    const Device device = Device::of("AC\xff\x01", "\0PLT");
+    expect(device.maker == 0x4143ff01 && device.model == 0x00504c54, "a device by its letters");
+    for (const Encoding &encoding : {Encoding::srgb(Intent::perceptual, device), Encoding::xyb(Intent::perceptual, device),
+                                     Encoding::display_p3(Intent::absolute, device)})
+        expect(std::memcmp(write(encoding).data() + MERQYDUK_MAKER_OFFSET, "AC\xff\x01\0PLT", 8) == 0, "a device in the header");
     // The curve of a display gamma of 2.2 is the fixed number of 2.2: the last element, 12 bytes from its start on.
     const Profile display = write(Encoding::gray(White::d65(), Curve::display_gamma(2.2f), Intent::relative));
     const std::uint8_t number[] = {0, 2, 0x33, 0x33};
@@ -122,7 +144,8 @@ bool alike(const Encoding &a, const Encoding &b) {
     return a.kind == b.kind && a.white.kind == b.white.kind && alike(a.white.x, b.white.x) &&
            alike(a.white.y, b.white.y) && p.kind == q.kind && alike(p.rx, q.rx) && alike(p.ry, q.ry) &&
            alike(p.gx, q.gx) && alike(p.gy, q.gy) && alike(p.bx, q.bx) && alike(p.by, q.by) &&
-           a.curve.kind == b.curve.kind && alike(a.curve.gamma, b.curve.gamma) && a.intent == b.intent;
+           a.curve.kind == b.curve.kind && alike(a.curve.gamma, b.curve.gamma) && a.intent == b.intent &&
+           a.device.maker == b.device.maker && a.device.model == b.device.model;
 }
 
 // The text is read as the encoding, and leads to its profile.
@@ -208,10 +231,12 @@ void jobs() {
 }
 
 void files() {
-    const Profile profile = write(Encoding::gray(White::own(0.25f, 0.5f), Curve::display_gamma(2), Intent::saturation));
+    const Profile profile = write(Encoding::gray(White::own(0.25f, 0.5f), Curve::display_gamma(2), Intent::saturation,
+                                                 Device::of("ACME", "PLT1")));
     const Reading reading = read(profile.data(), profile.size());
     expect(reading && reading.refusal == 0, "a profile read");
     expect(reading.plan.kind == 1 && reading.plan.intent == MERQYDUK_INTENT_SATURATION, "its kind and intent");
+    expect(reading.plan.maker == 0x41434d45 && reading.plan.model == 0x504c5431, "its maker and model");
     expect(reading.plan.curve == MERQYDUK_CURVE_GAMMA && reading.plan.gamma == 2 * 65536, "its curve");
     expect(reading.plan.white_x == 32768 && reading.plan.white_z == 32768, "its white");
     expect(reading.description() == "Gra_0.2500000;0.5000000_Sat_g0.5000000", "its description");
@@ -264,7 +289,8 @@ void refused_join(const std::string &name, const std::vector<std::uint8_t> &row,
 
 void segments() {
     const Profile profiles[] = {write(Encoding::srgb()), write(Encoding::xyb()),
-                                write(Encoding::gray(White::d65(), Curve::srgb(), Intent::relative))};
+                                write(Encoding::gray(White::d65(), Curve::srgb(), Intent::relative)),
+                                write(Encoding::xyb(Intent::perceptual, Device::of("ACME", "PLT1")))};
     for (const Profile &profile : profiles) {
         for (std::size_t size : {std::size_t(0), std::size_t(1), std::size_t(3), profile.size() / 3, profile.size(),
                                  std::size_t(MERQYDUK_MAX_SEGMENT_DATA), std::size_t(65520), SIZE_MAX})

@@ -15,6 +15,11 @@
  * Id. A profile's id is its bytes 84 to 99, MERQYDUK_ID_SIZE bytes from MERQYDUK_ID_OFFSET on: MD5 of the
  * profile with bytes 44 to 47, 64 to 67 and 84 to 99 zero.
  *
+ * Maker and model. A profile names the maker of its device in bytes 48 to 51 and the model in bytes 52 to 55
+ * (ICC.1: device manufacturer and device model). Each is any four bytes, and a call takes or tells it as one
+ * number, the first byte the most significant: 0x41434D45 is ACME. A call that writes and does not take them
+ * writes zeros; so jobs and typed texts mean zeros.
+ *
  * Gamma is the exponent that encodes, as jxl-rs has it: the curve in the profile decodes, and is x^(1/gamma).
  * For a display gamma of 2.2 pass 1/2.2f, which is about 0.45455.
  *
@@ -26,12 +31,12 @@
  * own.
  *
  * Stack. A call takes at most MERQYDUK_STACK bytes. Measured by host/stack.c, with arguments and memcpy:
- * merqyduk_write_gray 1,720, merqyduk_write_rgb 1,840, merqyduk_write_xyb 1,720, merqyduk_length_gray 912,
- * merqyduk_length_rgb 1,072, merqyduk_length_xyb 912, the same with _counted 1,736, 1,840, 1,736, 928, 1,088 and 928,
- * merqyduk_job 296, merqyduk_job_profile 1,968, merqyduk_read 3,720, merqyduk_find 3,784,
- * merqyduk_parse_description 712, merqyduk_write_segments 3,784, merqyduk_join_segments 6,200. Not counted is
- * the dynamic linker, which takes about 2,600 more where a program's first memcpy is looked up in the call;
- * -Wl,-z,now has it looked up before.
+ * merqyduk_write_gray 1,768, merqyduk_write_rgb 1,888, merqyduk_write_xyb 1,768, merqyduk_length_gray 928,
+ * merqyduk_length_rgb 1,088, merqyduk_length_xyb 928, the same with _counted 1,768, 1,888, 1,768, 928, 1,088 and 928,
+ * the first three with _device 1,800, 1,904 and 1,768, merqyduk_job 296, merqyduk_job_profile 2,048,
+ * merqyduk_read 3,720, merqyduk_find 3,768, merqyduk_parse_description 712, merqyduk_write_segments 3,768,
+ * merqyduk_join_segments 6,184. Not counted is the dynamic linker, which takes about 2,600 more where a program's
+ * first memcpy is looked up in the call; -Wl,-z,now has it looked up before.
  *
  * Platform: Linux on any x86-64 processor. The calls go by the floating-point environment that a program
  * starts with: rounding to nearest, exceptions masked, subnormal numbers kept. A program linked with
@@ -44,9 +49,9 @@
 #include <string.h>
 
 #define MERQYDUK_VERSION_MAJOR 0
-#define MERQYDUK_VERSION_MINOR 13
+#define MERQYDUK_VERSION_MINOR 14
 #define MERQYDUK_VERSION_PATCH 0
-#define MERQYDUK_VERSION_STRING "0.13.0"
+#define MERQYDUK_VERSION_STRING "0.14.0"
 
 /* The lengths of the profiles that are written, in bytes. */
 #define MERQYDUK_MIN_PROFILE 284
@@ -65,6 +70,10 @@
 /* Where a profile's id stands, and its bytes. */
 #define MERQYDUK_ID_OFFSET 84
 #define MERQYDUK_ID_SIZE 16
+
+/* Where a profile's maker and model stand, four bytes each. */
+#define MERQYDUK_MAKER_OFFSET 48
+#define MERQYDUK_MODEL_OFFSET 52
 
 /* The bytes of an encoding's record. */
 #define MERQYDUK_ENCODING_SIZE 41
@@ -221,7 +230,19 @@ uint32_t merqyduk_write_rgb(uint32_t white, float wx, float wy, uint32_t primari
 
 uint32_t merqyduk_write_xyb(uint32_t intent, uint8_t *out, size_t out_len);
 
-/* A profile's length before there is memory for it: what the call above that writes this kind would answer on an
+/* The same with maker and model, which may be any numbers. Each of these calls answers what the one above without _device in
+ * its name answers, and leaves the same output but for bytes 48 to 55 of the profile and its id; with zeros the output is the
+ * same. The calls below that tell a length or a count need no maker and model: neither depends on them. */
+uint32_t merqyduk_write_gray_device(uint32_t white, float wx, float wy, uint32_t curve, float gamma, uint32_t intent,
+                                    uint32_t maker, uint32_t model, uint8_t *out, size_t out_len);
+
+uint32_t merqyduk_write_rgb_device(uint32_t white, float wx, float wy, uint32_t primaries, float rx, float ry,
+                                   float gx, float gy, float bx, float by, uint32_t curve, float gamma,
+                                   uint32_t intent, uint32_t maker, uint32_t model, uint8_t *out, size_t out_len);
+
+uint32_t merqyduk_write_xyb_device(uint32_t intent, uint32_t maker, uint32_t model, uint8_t *out, size_t out_len);
+
+/* A profile's length before there is memory for it: what the calls above that write this kind would answer on an
  * output of `capacity` bytes, its refusals included. No output is needed or touched. With a capacity of SIZE_MAX
  * the answer is never MERQYDUK_REFUSED_OUTPUT. */
 uint32_t merqyduk_length_gray(uint32_t white, float wx, float wy, uint32_t curve, float gamma, uint32_t intent,
@@ -262,7 +283,8 @@ uint32_t merqyduk_length_xyb_counted(uint32_t intent, size_t capacity, uint32_t 
 
 /* ---- an encoding as one value */
 
-/* An encoding. A member that a space does not use is not read, and is 0 where a call fills the struct. */
+/* An encoding. A member that a space does not use is not read, and is 0 where a call fills the struct. Every space uses maker
+ * and model; a call that fills the struct sets them to 0. */
 struct merqyduk_encoding {
     uint32_t space;      /* MERQYDUK_SPACE_... */
     uint32_t white;      /* gray and RGB: MERQYDUK_WHITE_... */
@@ -272,19 +294,21 @@ struct merqyduk_encoding {
     uint32_t curve;      /* gray and RGB: MERQYDUK_CURVE_... */
     float gamma;         /* of MERQYDUK_CURVE_GAMMA */
     uint32_t intent;     /* MERQYDUK_INTENT_... */
+    uint32_t maker, model; /* any numbers */
 };
 
-/* What the call that writes this space answers, and what the one that tells its length answers; MERQYDUK_REFUSED_MEANING
- * before all else where the space has no meaning. */
+/* What the call that writes this space with maker and model answers, and what the one that tells its length answers;
+ * MERQYDUK_REFUSED_MEANING before all else where the space has no meaning. */
 static inline uint32_t merqyduk_write(const struct merqyduk_encoding *e, uint8_t *out, size_t out_len) {
     switch (e->space) {
     case MERQYDUK_SPACE_GRAY:
-        return merqyduk_write_gray(e->white, e->wx, e->wy, e->curve, e->gamma, e->intent, out, out_len);
+        return merqyduk_write_gray_device(e->white, e->wx, e->wy, e->curve, e->gamma, e->intent, e->maker, e->model,
+                                          out, out_len);
     case MERQYDUK_SPACE_RGB:
-        return merqyduk_write_rgb(e->white, e->wx, e->wy, e->primaries, e->rx, e->ry, e->gx, e->gy, e->bx, e->by,
-                                  e->curve, e->gamma, e->intent, out, out_len);
+        return merqyduk_write_rgb_device(e->white, e->wx, e->wy, e->primaries, e->rx, e->ry, e->gx, e->gy, e->bx,
+                                         e->by, e->curve, e->gamma, e->intent, e->maker, e->model, out, out_len);
     case MERQYDUK_SPACE_XYB:
-        return merqyduk_write_xyb(e->intent, out, out_len);
+        return merqyduk_write_xyb_device(e->intent, e->maker, e->model, out, out_len);
     default:
         return MERQYDUK_REFUSED_MEANING;
     }
@@ -304,22 +328,7 @@ static inline uint32_t merqyduk_length(const struct merqyduk_encoding *e, size_t
     }
 }
 
-/* The same by the calls that count. */
-static inline uint32_t merqyduk_write_counted(const struct merqyduk_encoding *e, uint8_t *out, size_t out_len,
-                                              uint32_t *rounded) {
-    switch (e->space) {
-    case MERQYDUK_SPACE_GRAY:
-        return merqyduk_write_gray_counted(e->white, e->wx, e->wy, e->curve, e->gamma, e->intent, out, out_len, rounded);
-    case MERQYDUK_SPACE_RGB:
-        return merqyduk_write_rgb_counted(e->white, e->wx, e->wy, e->primaries, e->rx, e->ry, e->gx, e->gy, e->bx,
-                                          e->by, e->curve, e->gamma, e->intent, out, out_len, rounded);
-    case MERQYDUK_SPACE_XYB:
-        return merqyduk_write_xyb_counted(e->intent, out, out_len, rounded);
-    default:
-        return MERQYDUK_REFUSED_MEANING;
-    }
-}
-
+/* The same with a count. */
 static inline uint32_t merqyduk_length_counted(const struct merqyduk_encoding *e, size_t capacity, uint32_t *rounded) {
     switch (e->space) {
     case MERQYDUK_SPACE_GRAY:
@@ -332,6 +341,12 @@ static inline uint32_t merqyduk_length_counted(const struct merqyduk_encoding *e
     default:
         return MERQYDUK_REFUSED_MEANING;
     }
+}
+
+static inline uint32_t merqyduk_write_counted(const struct merqyduk_encoding *e, uint8_t *out, size_t out_len,
+                                              uint32_t *rounded) {
+    merqyduk_length_counted(e, out_len, rounded); /* the count, which does not depend on maker and model */
+    return merqyduk_write(e, out, out_len);
 }
 
 /* A record is an encoding as MERQYDUK_ENCODING_SIZE bytes: the space, and then the 40 bytes of an RGB entry of a job:
@@ -363,6 +378,8 @@ static inline uint32_t merqyduk_encoding_from_record(const uint8_t *record, stru
     e->curve = record[35];
     e->gamma = merqyduk_record_float(record + 36);
     e->intent = record[40];
+    e->maker = 0;
+    e->model = 0;
     return 0;
 }
 
@@ -415,8 +432,10 @@ uint32_t merqyduk_job_profile(const uint8_t *job, size_t job_len, size_t i, uint
 
 /* A plan: all that a profile of the library says. Fixed numbers are 65536ths. A member that a kind does not use is 0. */
 struct merqyduk_plan {
-    uint32_t kind;       /* 1 gray, 2 RGB, 3 XYB, which uses no other member */
+    uint32_t kind;       /* 1 gray, 2 RGB, 3 XYB, which uses maker and model alone of the others */
     uint32_t intent;     /* MERQYDUK_INTENT_... */
+    uint32_t maker;      /* maker and model, of every kind: any numbers */
+    uint32_t model;
     uint32_t curve;      /* MERQYDUK_CURVE_... */
     int32_t gamma;       /* the fixed number of 1/gamma; 0 for a named curve */
     uint32_t cicp;       /* RGB: the ColourPrimaries value of the cicp tag; 0 where there is none */

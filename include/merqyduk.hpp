@@ -1,6 +1,6 @@
 // Merqyduk for C++11 and later: the calls of merqyduk.h with an encoding as one value. Header only; it throws nothing of
-// its own (a std::vector may run out of memory). merqyduk.h says what the answers, the id, a gamma and the count of rounded
-// numbers mean.
+// its own (a std::vector may run out of memory). merqyduk.h says what the answers, the id, maker and model, a gamma and the
+// count of rounded numbers mean.
 //
 //    auto profile = merqyduk::write(merqyduk::Encoding::srgb());
 //    if (profile) save(profile.data(), profile.size());
@@ -70,6 +70,24 @@ enum class Intent : std::uint32_t {
     absolute = MERQYDUK_INTENT_ABSOLUTE
 };
 
+// Four letters as one number, the first the most significant.
+inline std::uint32_t signature(const char (&letters)[5]) noexcept {
+    std::uint32_t number = 0;
+    for (int i = 0; i < 4; i++) number = number << 8 | static_cast<unsigned char>(letters[i]);
+    return number;
+}
+
+// Maker and model: any four bytes each, as one number.
+struct Device {
+    std::uint32_t maker, model;
+
+    static Device none() noexcept { return {0, 0}; }
+    // By their letters, as in of("ACME", "PLT1").
+    static Device of(const char (&maker)[5], const char (&model)[5]) noexcept {
+        return {signature(maker), signature(model)};
+    }
+};
+
 struct Encoding {
     enum class Kind { gray, rgb, xyb };
 
@@ -78,22 +96,24 @@ struct Encoding {
     Primaries primaries; // of RGB
     Curve curve;         // of gray and RGB
     Intent intent;
+    Device device;
 
-    static Encoding gray(White white, Curve curve, Intent intent) noexcept {
-        return {Kind::gray, white, Primaries::srgb(), curve, intent};
+    static Encoding gray(White white, Curve curve, Intent intent, Device device = Device::none()) noexcept {
+        return {Kind::gray, white, Primaries::srgb(), curve, intent, device};
     }
-    static Encoding rgb(White white, Primaries primaries, Curve curve, Intent intent) noexcept {
-        return {Kind::rgb, white, primaries, curve, intent};
+    static Encoding rgb(White white, Primaries primaries, Curve curve, Intent intent,
+                        Device device = Device::none()) noexcept {
+        return {Kind::rgb, white, primaries, curve, intent, device};
     }
     // Written for the intent Perceptual only.
-    static Encoding xyb(Intent intent = Intent::perceptual) noexcept {
-        return {Kind::xyb, White::d65(), Primaries::srgb(), Curve::srgb(), intent};
+    static Encoding xyb(Intent intent = Intent::perceptual, Device device = Device::none()) noexcept {
+        return {Kind::xyb, White::d65(), Primaries::srgb(), Curve::srgb(), intent, device};
     }
-    static Encoding srgb(Intent intent = Intent::perceptual) noexcept {
-        return rgb(White::d65(), Primaries::srgb(), Curve::srgb(), intent);
+    static Encoding srgb(Intent intent = Intent::perceptual, Device device = Device::none()) noexcept {
+        return rgb(White::d65(), Primaries::srgb(), Curve::srgb(), intent, device);
     }
-    static Encoding display_p3(Intent intent = Intent::perceptual) noexcept {
-        return rgb(White::d65(), Primaries::p3(), Curve::srgb(), intent);
+    static Encoding display_p3(Intent intent = Intent::perceptual, Device device = Device::none()) noexcept {
+        return rgb(White::d65(), Primaries::p3(), Curve::srgb(), intent, device);
     }
 };
 
@@ -172,7 +192,7 @@ inline merqyduk_encoding in_c(const Encoding &e) noexcept {
     // The kinds stand in the order of MERQYDUK_SPACE_..., from 0 on.
     return {static_cast<std::uint32_t>(e.kind) + MERQYDUK_SPACE_GRAY, e.white.kind, e.white.x, e.white.y,
             p.kind, p.rx, p.ry, p.gx, p.gy, p.bx, p.by, e.curve.kind, e.curve.gamma,
-            static_cast<std::uint32_t>(e.intent)};
+            static_cast<std::uint32_t>(e.intent), e.device.maker, e.device.model};
 }
 
 // Into an output that the caller lends.
@@ -231,7 +251,7 @@ struct Parsed {
     const char *text() const noexcept { return merqyduk_refusal_text(refusal); }
 };
 
-// The text is a description, such as sRGB or RGB_D65_SRG_Rel_Lin: merqyduk.h has its language.
+// The text is a description, such as sRGB or RGB_D65_SRG_Rel_Lin: merqyduk.h has its language. Its encoding has no device.
 inline Parsed parse(const char *text, std::size_t text_len) noexcept {
     Parsed made = Parsed();
     merqyduk_encoding e;
@@ -317,9 +337,8 @@ struct Element {
 
 // The element of a tag by its four letters, as in find(file, file_len, "desc").
 inline Element find(const std::uint8_t *file, std::size_t file_len, const char (&tag)[5]) noexcept {
-    std::uint32_t signature = 0, offset = 0;
-    for (int i = 0; i < 4; i++) signature = signature << 8 | static_cast<unsigned char>(tag[i]);
-    const std::uint32_t size = merqyduk_find(file, file_len, signature, &offset);
+    std::uint32_t offset = 0;
+    const std::uint32_t size = merqyduk_find(file, file_len, signature(tag), &offset);
     return size == 0 ? Element{file, 0} : Element{file + offset, size};
 }
 

@@ -1,6 +1,7 @@
-/* What lcms2 makes of profiles, for run.sh. A line starts with a word and has fields with tabs between.
+/* What lcms2 makes of profiles, for run.sh and host/test.sh. A line starts with a word and has fields with tabs between.
  *
  *    lcms tags PROFILE    the number of tags, and which of them lcms2 does not read
+ *    lcms device PROFILE  the maker and the model, by the letters that their bytes are
  *    lcms white PROFILE   the white of the device in the PCS, relative and absolute, and in lcms2's own sRGB with eight bits
  *    lcms like PROFILE WX WY [RX RY GX GY BX BY] CURVE
  *                         the largest difference in Lab, on a grid of colors, to a profile that lcms2 makes itself from these; CURVE is srgb,
@@ -20,16 +21,27 @@ static void say(cmsContext context, cmsUInt32Number code, const char *text) {
     fprintf(stderr, "lcms2 says %u: %s\n", (unsigned)code, text);
 }
 
+static void print_letters(const char *before, cmsUInt32Number four) {
+    printf("%s%c%c%c%c", before, four >> 24, four >> 16 & 255, four >> 8 & 255, four & 255);
+}
+
 static int tags(cmsHPROFILE profile) {
     printf("tags\t%d\t", (int)cmsGetTagCount(profile));
     int unread = 0;
     for (int i = 0; i < cmsGetTagCount(profile); i++) {
         cmsUInt32Number tag = (cmsUInt32Number)cmsGetTagSignature(profile, (cmsUInt32Number)i);
         if (!cmsReadTag(profile, (cmsTagSignature)tag)) {
-            printf("%s%c%c%c%c", unread ? " " : "", tag >> 24, tag >> 16 & 255, tag >> 8 & 255, tag & 255);
+            print_letters(unread ? " " : "", tag);
             unread++;
         }
     }
+    printf("\n");
+    return 0;
+}
+
+static int maker_and_model(cmsHPROFILE profile) {
+    print_letters("device\t", cmsGetHeaderManufacturer(profile));
+    print_letters("\t", cmsGetHeaderModel(profile));
     printf("\n");
     return 0;
 }
@@ -167,10 +179,16 @@ int main(int argc, char **argv) {
         return 0;
     }
     const char *word = argc > 2 ? argv[1] : "";
-    int (*look)(cmsHPROFILE) = strcmp(word, "tags") == 0 ? tags : strcmp(word, "white") == 0 ? white : strcmp(word, "srgb") == 0 ? srgb : NULL;
+    static const struct {
+        const char *word;
+        int (*look)(cmsHPROFILE);
+    } looks[] = {{"tags", tags}, {"device", maker_and_model}, {"white", white}, {"srgb", srgb}};
+    int (*look)(cmsHPROFILE) = NULL;
+    for (size_t i = 0; i < sizeof looks / sizeof looks[0]; i++)
+        if (strcmp(word, looks[i].word) == 0) look = looks[i].look;
     const int compare = strcmp(word, "like") == 0 && (argc == 6 || argc == 12);
     if (!compare && !(look && argc == 3)) {
-        fprintf(stderr, "lcms version, lcms tags|white|srgb PROFILE, or lcms like PROFILE WX WY [RX RY GX GY BX BY] CURVE\n");
+        fprintf(stderr, "lcms version, lcms tags|device|white|srgb PROFILE, or lcms like PROFILE WX WY [RX RY GX GY BX BY] CURVE\n");
         return 2;
     }
     cmsSetLogErrorHandler(say);
