@@ -9,7 +9,8 @@ use judge::jobs::{self, Answer};
 use judge::list::hex;
 use judge::progress::Progress;
 
-use crate::{Run, Written, port};
+use crate::writer::Written;
+use crate::{Run, port};
 
 /// From this many jobs on, each answer must have occurred.
 const ENOUGH: usize = 100_000;

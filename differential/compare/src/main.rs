@@ -11,12 +11,12 @@ mod port;
 mod reader;
 mod segments;
 mod typed;
+mod writer;
 
-use std::fmt::Debug;
+use std::fmt::{Debug, Display, Formatter, Result as Printed};
 use std::hint::black_box;
 use std::process::ExitCode;
 
-use judge::encoding::Encoding;
 use judge::inputs::{Random, encodings, floats, pieces};
 use judge::progress::Progress;
 use judge::{answer, bench, leaves};
@@ -53,24 +53,57 @@ impl Run {
         port: impl Fn(&I) -> A,
     ) {
         let mut random = Random::new(self.seed);
-        let mut progress = Progress::new(name, self.count);
-        let mut tried = 0;
-        let mut different = 0;
-        while tried < self.count {
-            for input in inputs(&mut random, PART.min(self.count - tried)) {
-                tried += 1;
-                let (expected, found) = (original(&input), port(&input));
-                if expected != found {
-                    different += 1;
-                    if different <= 3 {
-                        println!("{name} of {input:x?}: expected {expected:x?}, found {found:x?}");
-                    }
-                }
-                progress.at(tried, different);
+        let mut tally = Tally::new(name, self.count);
+        while tally.tried < self.count {
+            for input in inputs(&mut random, PART.min(self.count - tally.tried)) {
+                tally.add(&input, &original(&input), &port(&input));
             }
         }
-        println!("{name}: {tried} inputs, {different} differences");
-        self.differences += different;
+        println!("{tally}");
+        self.differences += tally.different;
+    }
+}
+
+/// One comparison: on how many inputs it was tried, and how many answers differed.
+struct Tally {
+    name: &'static str,
+    tried: usize,
+    different: usize,
+    progress: Progress,
+}
+
+impl Tally {
+    fn new(name: &'static str, count: usize) -> Self {
+        Self {
+            name,
+            tried: 0,
+            different: 0,
+            progress: Progress::new(name, count),
+        }
+    }
+
+    fn add<A: PartialEq + Debug>(&mut self, input: &impl Debug, expected: &A, found: &A) {
+        self.tried += 1;
+        if expected != found {
+            self.different += 1;
+            if self.different <= 3 {
+                let name = self.name;
+                println!("{name} of {input:x?}: expected {expected:x?}, found {found:x?}");
+            }
+        }
+        self.progress.at(self.tried, self.different);
+    }
+}
+
+impl Display for Tally {
+    fn fmt(&self, f: &mut Formatter<'_>) -> Printed {
+        let Self {
+            name,
+            tried,
+            different,
+            ..
+        } = self;
+        write!(f, "{name}: {tried} inputs, {different} differences")
     }
 }
 
@@ -153,81 +186,6 @@ fn validate(run: &mut Run) {
         encodings::compared,
         leaves::validation,
         port::validation,
-    );
-}
-
-/// What the output holds before a call.
-const FILL: u8 = 0xa5;
-
-/// What a call on an output of `room` bytes answers and leaves in it.
-#[derive(Debug, PartialEq)]
-struct Written {
-    answer: usize,
-    output: Vec<u8>,
-}
-
-impl Written {
-    /// What is due where the original gives these bytes or this refusal.
-    fn due(given: Result<&[u8], u32>, room: usize) -> Self {
-        let mut output = vec![FILL; room];
-        let answer = match given.and_then(|bytes| answer::within(bytes, room)) {
-            Ok(bytes) => {
-                output[..bytes.len()].copy_from_slice(bytes);
-                bytes.len()
-            }
-            Err(number) => number as usize,
-        };
-        Self { answer, output }
-    }
-
-    /// What a call of the port gives.
-    fn by(call: impl FnOnce(&mut [u8]) -> usize, room: usize) -> Self {
-        let mut output = vec![FILL; room];
-        let answer = call(&mut output);
-        Self { answer, output }
-    }
-}
-
-/// Encodings, each with an output of 1,300 bytes or, one in eight, of any length up to 800.
-fn calls(random: &mut Random, count: usize) -> Vec<(Encoding, usize)> {
-    let encodings = encodings::compared(random, count);
-    let mut room = || match random.below(8) {
-        0 => random.below(801) as usize,
-        _ => 1300,
-    };
-    encodings.into_iter().map(|one| (one, room())).collect()
-}
-
-/// What is answered without an output: for `room` bytes, none, the most, as many as the answer for the most says, and one less.
-fn lengths(answer: impl Fn(usize) -> usize, room: usize) -> [usize; 5] {
-    let most = answer(usize::MAX);
-    [
-        answer(room),
-        answer(0),
-        most,
-        answer(most),
-        answer(most - 1),
-    ]
-}
-
-fn writer(run: &mut Run) {
-    run.leaf(
-        "writer and dry call",
-        calls,
-        |(encoding, room)| {
-            let profile = answer::profile(encoding);
-            let given = profile.as_deref().map_err(|number| *number);
-            let length = |capacity| match given.and_then(|bytes| answer::within(bytes, capacity)) {
-                Ok(bytes) => bytes.len(),
-                Err(number) => number as usize,
-            };
-            (Written::due(given, *room), lengths(length, *room))
-        },
-        |(encoding, room)| {
-            let length = |capacity| port::length(encoding, capacity) as usize;
-            let written = Written::by(|out| port::write(encoding, out) as usize, *room);
-            (written, lengths(length, *room))
-        },
     );
 }
 
@@ -322,7 +280,7 @@ impl Asked {
             ("profiles", [folder]) => return Ok(Self::Profiles(folder.to_string())),
             ("leaves", _) => leaves,
             ("validate", _) => validate,
-            ("writer", _) => writer,
+            ("writer", _) => writer::writer,
             ("jobs", _) => jobs::jobs,
             ("reader", _) => reader::reader,
             ("typed", _) => typed::typed,

@@ -1,6 +1,6 @@
 //! The port, through its static libraries: leaves, jobs and reader by the comparison's own entries, the writer by the port's.
 
-use judge::encoding::{Encoding, GRAY, RGB};
+use judge::encoding::{Device, Encoding, GRAY, RGB};
 use judge::leaves::{Linalg, Numbers, double_bits};
 
 use crate::reader::Reading;
@@ -33,6 +33,46 @@ mod entries {
             curve: u32,
             gamma: f32,
             intent: u32,
+            out: *mut u8,
+            len: usize,
+        ) -> u32;
+        pub fn merqyduk_write_xyb_device(
+            intent: u32,
+            maker: u32,
+            model: u32,
+            out: *mut u8,
+            len: usize,
+        ) -> u32;
+        #[allow(clippy::too_many_arguments)]
+        pub fn merqyduk_write_gray_device(
+            white: u32,
+            wx: f32,
+            wy: f32,
+            curve: u32,
+            gamma: f32,
+            intent: u32,
+            maker: u32,
+            model: u32,
+            out: *mut u8,
+            len: usize,
+        ) -> u32;
+        #[allow(clippy::too_many_arguments)]
+        pub fn merqyduk_write_rgb_device(
+            white: u32,
+            wx: f32,
+            wy: f32,
+            primaries: u32,
+            rx: f32,
+            ry: f32,
+            gx: f32,
+            gy: f32,
+            bx: f32,
+            by: f32,
+            curve: u32,
+            gamma: f32,
+            intent: u32,
+            maker: u32,
+            model: u32,
             out: *mut u8,
             len: usize,
         ) -> u32;
@@ -321,7 +361,7 @@ pub fn validation(encoding: &Encoding) -> u32 {
 /// The reader's answer. The fields are filled before, so that one that is not written shows.
 pub fn read(file: &[u8]) -> Reading {
     let mut reading = Reading {
-        codes: [0xa5; 5],
+        codes: [0xa5; 7],
         free: [0xa5; 3],
         chad: [0xa5; 9],
         columns: [0xa5; 9],
@@ -420,6 +460,41 @@ pub fn write(encoding: &Encoding, out: &mut [u8]) -> u32 {
                 len,
             ),
             _ => entries::merqyduk_write_xyb(a.intent, at, len),
+        }
+    }
+}
+
+/// The same with maker and model. Of no output, a null pointer is passed.
+pub fn write_device(encoding: &Encoding, device: Device, out: &mut [u8]) -> u32 {
+    let a = Arguments::of(encoding);
+    let [rx, ry, gx, gy, bx, by] = a.xy;
+    let Device { maker, model } = device;
+    let (at, len) = (place_mut(out), out.len());
+    unsafe {
+        match encoding.kind {
+            GRAY => entries::merqyduk_write_gray_device(
+                a.white, a.wx, a.wy, a.curve, a.gamma, a.intent, maker, model, at, len,
+            ),
+            RGB => entries::merqyduk_write_rgb_device(
+                a.white,
+                a.wx,
+                a.wy,
+                a.primaries,
+                rx,
+                ry,
+                gx,
+                gy,
+                bx,
+                by,
+                a.curve,
+                a.gamma,
+                a.intent,
+                maker,
+                model,
+                at,
+                len,
+            ),
+            _ => entries::merqyduk_write_xyb_device(a.intent, maker, model, at, len),
         }
     }
 }

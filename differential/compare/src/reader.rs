@@ -3,7 +3,7 @@
 use std::fmt::{Display, Formatter, Result as Printed};
 use std::path::Path;
 
-use judge::encoding::{GRAY, RGB, XYB};
+use judge::encoding::{Device, GRAY, RGB, XYB};
 use judge::inputs::{Random, damage, plans, profile_cases};
 use judge::list::hex;
 use judge::profiles::{self, Sheet, set_id, set_size};
@@ -43,8 +43,8 @@ const SIGNATURES: [&[u8; 4]; 21] = [
 /// The reader's answer as the port gives it.
 #[derive(Clone, Debug, PartialEq, Eq)]
 pub struct Reading {
-    /// Refusal, kind, intent, curve and `cicp`.
-    pub codes: [u32; 5],
+    /// Refusal, kind, intent, maker, model, curve and `cicp`.
+    pub codes: [u32; 7],
     /// Gamma, and X and Z of a gray white.
     pub free: [i32; 3],
     pub chad: [i32; 9],
@@ -62,8 +62,9 @@ impl Reading {
         let mut text = [0; 372];
         text[..plan.text.len()].copy_from_slice(&plan.text);
         let [kind, curve, cicp] = [plan.kind, plan.curve, plan.cicp].map(u32::from);
+        let Device { maker, model } = plan.device;
         Self {
-            codes: [refusal, kind, plan.intent, curve, cicp],
+            codes: [refusal, kind, plan.intent, maker, model, curve, cicp],
             free: [plan.gamma, plan.white[0], plan.white[1]],
             chad: plan.chad,
             columns: plan.columns,
@@ -75,24 +76,29 @@ impl Reading {
 
 /// The bytes of a lent record before a call, and how many the struct of C has.
 const UNTOUCHED: u8 = 0xa5;
-const RECORD: usize = 476;
+const RECORD: usize = 484;
 
 impl Reading {
     /// What the call from C leaves in a record of so many bytes, and its answer.
     fn record_due(&self, length: usize) -> (u32, Vec<u8>) {
         let mut record = vec![UNTOUCHED; length];
-        let [refusal, kind, intent, curve, cicp] = self.codes;
+        let [refusal, kind, intent, maker, model, curve, cicp] = self.codes;
         if refusal != 0 || length < RECORD {
             return (if refusal != 0 { refusal } else { 9 }, record);
         }
         let [gamma, white_x, white_z] = self.free.map(i32::cast_unsigned);
-        let first = [kind, intent, curve, gamma, cicp, white_x, white_z];
+        let first = [
+            kind, intent, maker, model, curve, gamma, cicp, white_x, white_z,
+        ];
         let nines = self.chad.iter().chain(&self.columns);
         let numbers = first
             .into_iter()
             .chain(nines.map(|n| n.cast_unsigned()))
             .chain([self.letters as u32]);
-        let bytes: Vec<u8> = numbers.flat_map(u32::to_le_bytes).chain(self.text).collect();
+        let bytes: Vec<u8> = numbers
+            .flat_map(u32::to_le_bytes)
+            .chain(self.text)
+            .collect();
         record[..RECORD].copy_from_slice(&bytes);
         (0, record)
     }
@@ -135,7 +141,7 @@ pub fn reader(run: &mut Run) {
         "reader: {} files, {} differences ({met})",
         run.count, run.differences
     );
-    if run.count >= ENOUGH && met.0.contains(&0) {
+    if run.count >= ENOUGH && met.lacks_one() {
         println!("reader: an answer never occurred");
         run.differences += 1;
     }
@@ -170,14 +176,16 @@ pub fn folder(run: &mut Run, folder: &Path) -> Result<(), String> {
     Ok(())
 }
 
-/// A profile of another maker under each of our headers, so that its table is looked at; and
-/// its front under the table of a plan.
+/// A profile of another maker under each of our headers, in which its own maker and model stay, so
+/// that its table is looked at; and its front under the table of a plan.
 fn with_our_headers(bytes: &[u8], random: &mut Random) -> Vec<Vec<u8>> {
     let mut all = Vec::new();
     for kind in [GRAY, RGB, XYB] {
         let mut file = bytes.to_vec();
         if file.len() >= 128 {
-            file[..128].copy_from_slice(profiles::header(kind));
+            let header = profiles::header(kind);
+            file[..48].copy_from_slice(&header[..48]);
+            file[56..128].copy_from_slice(&header[56..]);
         }
         set_size(&mut file);
         set_id(&mut file);
@@ -253,21 +261,38 @@ fn asked(file: &[u8], accepted: bool) -> Vec<[u8; 4]> {
     [*b"cprt", *b"rTRC"].into_iter().chain(first).collect()
 }
 
-/// How many files were accepted, and refused by 21 to 28.
+/// How often each answer was due.
 #[derive(Default)]
-struct Met([u64; 9]);
+struct Met {
+    /// Accepted, and refused by 21 to 28.
+    answers: [u64; 9],
+    /// Of the accepted files, those whose maker or model is not zero.
+    devices: u64,
+}
 
 impl Met {
     fn add(&mut self, answer: &Result<Plan, u32>) {
         let number = *answer.as_ref().err().unwrap_or(&20) as usize - 20;
-        self.0[number] += 1;
+        self.answers[number] += 1;
+        let device = |plan: &Plan| plan.device != Device::default();
+        self.devices += u64::from(answer.as_ref().is_ok_and(device));
+    }
+
+    fn lacks_one(&self) -> bool {
+        let zeros = self.answers[0] - self.devices;
+        self.answers.contains(&0) || self.devices == 0 || zeros == 0
     }
 }
 
 impl Display for Met {
     fn fmt(&self, f: &mut Formatter<'_>) -> Printed {
-        write!(f, "{} accepted", self.0[0])?;
-        for (number, times) in (21..).zip(&self.0[1..]) {
+        let [accepted, refused @ ..] = &self.answers;
+        let devices = self.devices;
+        write!(
+            f,
+            "{accepted} accepted, of these {devices} with a maker or model"
+        )?;
+        for (number, times) in (21..).zip(refused) {
             write!(f, ", {times} refused {number}")?;
         }
         Ok(())

@@ -6,8 +6,9 @@
 use jxl::api::color::{JxlColorEncoding, open};
 use jxl::error::Error;
 
-use crate::encoding::{Encoding, GAMMA, GRAY, XYB};
+use crate::encoding::{Device, Encoding, GAMMA, GRAY, XYB};
 use crate::leaves;
+use crate::profiles::set_id;
 
 /// The profile, or the number of the refusal (1 to 8).
 ///
@@ -40,6 +41,15 @@ pub fn within(bytes: &[u8], room: usize) -> Result<&[u8], u32> {
         return Err(9);
     }
     Ok(bytes)
+}
+
+/// A profile of the original with maker and model in its header, and the id that is then due.
+pub fn with_device(profile: &[u8], device: Device) -> Vec<u8> {
+    let mut file = profile.to_vec();
+    file[48..52].copy_from_slice(&device.maker.to_be_bytes());
+    file[52..56].copy_from_slice(&device.model.to_be_bytes());
+    set_id(&mut file);
+    file
 }
 
 /// The text of the profile's description; PQ and HLG have one too.

@@ -2,6 +2,8 @@
 //!
 //! Floats are held as their bits, so that two encodings are equal where their bits are.
 
+use std::fmt::{Debug, Formatter, Result as Printed};
+
 use jxl::api::color::{
     JxlColorEncoding, JxlPrimaries, JxlTransferFunction, JxlWhitePoint, RenderingIntent,
 };
@@ -52,6 +54,24 @@ pub struct Encoding {
     pub primaries: Primaries,
     pub curve: Curve,
     pub intent: u8,
+}
+
+/// Maker and model of 02's order 6, four bytes each, the first the most significant. The original
+/// has none: its headers have zeros for them.
+#[derive(Clone, Copy, Default, PartialEq, Eq)]
+pub struct Device {
+    pub maker: u32,
+    pub model: u32,
+}
+
+impl Debug for Device {
+    /// In hexadecimal, so that the bytes show.
+    fn fmt(&self, f: &mut Formatter<'_>) -> Printed {
+        f.debug_struct("Device")
+            .field("maker", &format_args!("{:#010x}", self.maker))
+            .field("model", &format_args!("{:#010x}", self.model))
+            .finish()
+    }
 }
 
 impl White {

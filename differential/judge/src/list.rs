@@ -21,7 +21,7 @@ const UNTOUCHED: u8 = 165;
 
 /// The first line of a list.
 pub fn first_line(seed: u64) -> String {
-    format!("merqyduk vectors, format 2, seed {seed}, jxl-rs {COMMIT}")
+    format!("merqyduk vectors, format 3, seed {seed}, jxl-rs {COMMIT}")
 }
 
 /// The input of a record.
@@ -235,6 +235,7 @@ fn read(file: &[u8]) -> Vec<String> {
     ]);
     let numbers = plan.chad.iter().chain(&plan.columns);
     fields.extend(numbers.map(|number| word(*number as u32)));
+    fields.extend(words(&[plan.device.maker, plan.device.model]));
     fields.push(hex(&plan.text));
     fields
 }

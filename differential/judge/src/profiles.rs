@@ -48,6 +48,8 @@ impl Tag {
 impl Sheet {
     pub fn of(plan: &Plan) -> Self {
         let mut header = header(plan.kind).to_vec();
+        header[48..52].copy_from_slice(&plan.device.maker.to_be_bytes());
+        header[52..56].copy_from_slice(&plan.device.model.to_be_bytes());
         header[64..68].copy_from_slice(&plan.intent.to_be_bytes());
         let mut tags = Vec::new();
         if plan.kind == XYB {

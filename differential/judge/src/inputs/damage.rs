@@ -2,14 +2,18 @@
 
 use super::plans::{self, ENDS, NAMED, PRIMARIES};
 use super::random::Random;
-use super::{below, byte};
+use super::{below, byte, devices};
 use crate::profiles::{self, Sheet, Tag, cicp, header, parametric, set_id, set_size};
+use crate::reader::Plan;
 
 /// A file for the reader: three in ten are whole, the others have faults, one or several. In half of
 /// them the id is made anew after the faults.
 pub fn file(random: &mut Random) -> Vec<u8> {
     let plan = match random.below(3) {
-        0 => plans::written(random),
+        0 => Plan {
+            device: devices::or_zeros(&mut random.apart()),
+            ..plans::written(random)
+        },
         _ => plans::plan(random),
     };
     let mut sheet = Sheet::of(&plan);
@@ -144,11 +148,13 @@ fn cicp_beside(random: &mut Random, sheet: &mut Sheet) {
     }
 }
 
-/// Another kind's header, or a pair that no kind has.
+/// Another kind's header, or a pair that no kind has. Maker, model and intent stay.
 fn class_and_space(random: &mut Random, sheet: &mut Sheet) {
-    let intent: [u8; 4] = sheet.header[64..68].try_into().expect("four bytes");
-    sheet.header = header(1 + random.below(3) as u8).to_vec();
-    sheet.header[64..68].copy_from_slice(&intent);
+    let mut other = header(1 + random.below(3) as u8).to_vec();
+    for field in [48..56, 64..68] {
+        other[field.clone()].copy_from_slice(&sheet.header[field]);
+    }
+    sheet.header = other;
     if random.percent(30) {
         let class: &[u8; 4] = random.pick(&[b"mntr", b"scnr", b"prtr", b"MNTR"]);
         let space: &[u8; 4] = random.pick(&[b"GRAY", b"RGB ", b"CMYK", b"RGB\0"]);

@@ -4,7 +4,7 @@ use super::colours::{self, Xy, ZERO_LINES};
 use super::floats::{LIMIT, NANS, SMALLEST, SPECIAL, around, edge};
 use super::random::Random;
 use crate::answer;
-use crate::encoding::{Curve, Encoding, GAMMA, Primaries, SRGB_CURVE, White};
+use crate::encoding::{Curve, Encoding, GAMMA, OWN, Primaries, SRGB_CURVE, White};
 
 pub const SRGB: Curve = Curve {
     kind: SRGB_CURVE,
@@ -398,16 +398,28 @@ pub fn encoding(random: &mut Random) -> Encoding {
 
 /// Floats that a kind does not use may hold any bits.
 pub fn fill_unused(mut bits: impl FnMut() -> u32, encoding: &mut Encoding) {
-    if encoding.white.kind != crate::encoding::OWN {
+    if encoding.white.kind != OWN {
         encoding.white.wx = bits();
         encoding.white.wy = bits();
     }
-    if encoding.primaries.kind != crate::encoding::OWN {
+    if encoding.primaries.kind != OWN {
         encoding.primaries.xy = [0; 6].map(|_| bits());
     }
     if encoding.curve.kind != GAMMA {
         encoding.curve.gamma = bits();
     }
+}
+
+/// The encoding with a number past its list, in one place. Some kinds do not use that place.
+pub fn without_meaning(random: &mut Random, mut encoding: Encoding) -> Encoding {
+    let past = random.below(200) as u8;
+    match random.below(4) {
+        0 => encoding.white.kind = OWN + 1 + past,
+        1 => encoding.primaries.kind = OWN + 1 + past,
+        2 => encoding.curve.kind = GAMMA + 1 + past,
+        _ => encoding.intent = 4 + past,
+    }
+    encoding
 }
 
 fn curve(random: &mut Random) -> Curve {

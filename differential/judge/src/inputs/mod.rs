@@ -3,6 +3,7 @@
 
 pub mod colours;
 pub mod damage;
+pub mod devices;
 pub mod encodings;
 pub mod floats;
 pub mod job_cases;

@@ -1,7 +1,7 @@
 //! Profiles for the reader: what the original writes, and plans that no encoding leads to.
 
 use super::random::Random;
-use super::{below, encodings};
+use super::{below, devices, encodings};
 use crate::answer;
 use crate::encoding::{GAMMA, GRAY, RGB, XYB};
 use crate::profiles::Sheet;
@@ -43,10 +43,11 @@ pub fn text(random: &mut Random, letters: usize) -> Vec<u8> {
 }
 
 /// A plan of a kind with a text of some letters; `gamma` and `cicp` say which curve and whether
-/// the tag is there.
+/// the tag is there. Maker and model are any.
 pub fn of_shape(random: &mut Random, kind: u8, letters: usize, gamma: bool, cicp: bool) -> Plan {
     let mut plan = Plan {
         kind,
+        device: devices::or_zeros(&mut random.apart()),
         ..Plan::default()
     };
     if kind == XYB {

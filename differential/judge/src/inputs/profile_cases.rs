@@ -1,9 +1,10 @@
 //! Damaged profiles in order: every byte, every length, every field of one profile of each shape.
 
 use super::damage::{get, length_fields, put, zero_id};
+use super::devices;
 use super::plans::{self, ENDS, NAMED, PRIMARIES};
 use super::random::Random;
-use crate::encoding::{Encoding, GAMMA, GRAY, RGB, White, XYB};
+use crate::encoding::{Device, Encoding, GAMMA, GRAY, RGB, White, XYB};
 use crate::inputs::encodings::SRGB;
 use crate::profiles::{self, Sheet, cicp, set_id, set_size};
 use crate::reader::Plan;
@@ -18,24 +19,38 @@ const SHAPES: [(u8, bool, bool); 5] = [
     (RGB, true, false),
 ];
 
-/// All cases. Numbers and texts follow from the seed.
+/// Maker and model of the cases that have any. The eight bytes all differ, and none is zero.
+const DEVICE: Device = Device {
+    maker: 0x6d61_6b72,
+    model: 0xff80_017f,
+};
+
+/// All cases, with maker and model zero, and the same files again with others. Numbers and texts
+/// follow from the seed.
 pub fn cases(random: &mut Random) -> Vec<Vec<u8>> {
+    let mut again = random.clone();
     let mut files = Vec::new();
+    cases_of(random, Device::default(), &mut files);
+    cases_of(&mut again, DEVICE, &mut files);
+    files
+}
+
+fn cases_of(random: &mut Random, device: Device, files: &mut Vec<Vec<u8>>) {
     for (plan, letters) in bases(random) {
+        let plan = Plan { device, ..plan };
         let file = Sheet::of(&plan).bytes();
         files.push(file.clone());
-        every_byte(&file, &mut files);
-        every_length(&file, &mut files);
-        length_fields_changed(&file, &mut files);
-        lines_exchanged(&file, &mut files);
-        headers(&file, &mut files);
+        every_byte(&file, files);
+        every_length(&file, files);
+        length_fields_changed(&file, files);
+        lines_exchanged(&file, files);
+        headers(&file, files);
         if letters > 0 {
-            text_lengths(random, &plan, &mut files);
-            free_numbers(&plan, &mut files);
+            text_lengths(random, &plan, files);
+            free_numbers(&plan, files);
         }
-        transfers(&plan, &mut files);
+        transfers(&plan, files);
     }
-    files
 }
 
 /// A plan of each shape, and its letters (0 for XYB); and the plan of sRGB as it is written.
@@ -114,8 +129,14 @@ fn lines_exchanged(file: &[u8], files: &mut Vec<Vec<u8>>) {
     }
 }
 
-/// Intents, classes and spaces, and ids that are zero.
+/// Makers and models, intents, classes and spaces, and ids that are zero.
 fn headers(file: &[u8], files: &mut Vec<Vec<u8>>) {
+    for device in devices::cases() {
+        let mut changed = file.to_vec();
+        put(&mut changed, 48, device.maker);
+        put(&mut changed, 52, device.model);
+        with_both_ids(changed, files);
+    }
     for intent in [
         0,
         1,

@@ -1,10 +1,17 @@
 //! Random numbers that follow from a seed: splitmix64.
 
+#[derive(Clone)]
 pub struct Random(u64);
 
 impl Random {
     pub fn new(seed: u64) -> Self {
         Self(seed)
+    }
+
+    /// Other numbers, which follow from where these stand. Drawing them leaves these as they are, so
+    /// that the inputs of a seed stay the same where something is added to them.
+    pub fn apart(&self) -> Self {
+        Self(!self.0)
     }
 
     pub fn bits64(&mut self) -> u64 {

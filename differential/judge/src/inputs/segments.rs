@@ -2,7 +2,7 @@
 
 use super::random::Random;
 use super::{below, byte, damage, encodings, plans};
-use crate::encoding::{Encoding, GRAY, RGB};
+use crate::encoding::{GRAY, RGB, XYB};
 use crate::profiles::{Sheet, set_size};
 use crate::segments::{self, MOST_DATA, Reading};
 use crate::{answer, reader};
@@ -84,7 +84,7 @@ pub fn accepted(random: &mut Random) -> Vec<u8> {
         0..3 => Sheet::of(&plans::plan(random)).bytes(),
         3 => about_255(random),
         4 => with_a_front(random),
-        5..8 => answer::profile(&Encoding::xyb(0)).expect("XYB is accepted"),
+        5..8 => Sheet::of(&plans::of_shape(random, XYB, 0, false, false)).bytes(),
         _ => loop {
             if let Ok(file) = answer::profile(&encodings::any(random)) {
                 return file;

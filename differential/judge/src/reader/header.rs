@@ -24,8 +24,9 @@ const FIELDS: [(usize, &[u8]); 9] = [
     (80, b"jxl "),
 ];
 
-/// Flags, manufacturer, model and attributes; and what is reserved after the id.
-const ZEROS: [std::ops::Range<usize>; 2] = [44..64, 100..128];
+/// Flags, attributes, and what is reserved after the id. Maker and model, between the first two, may
+/// be any.
+const ZEROS: [std::ops::Range<usize>; 3] = [44..48, 56..64, 100..128];
 
 /// The kind of the header, or None where refusal 23 is due.
 pub fn kind(file: &[u8]) -> Option<u8> {

@@ -9,7 +9,7 @@ mod elements;
 mod header;
 mod tables;
 
-use crate::encoding::{GRAY, RGB, XYB};
+use crate::encoding::{Device, GRAY, RGB, XYB};
 use crate::leaves;
 use tables::Table;
 
@@ -17,11 +17,13 @@ use tables::Table;
 pub const LARGEST: i32 = 2_147_483_264;
 
 /// A plan. Kinds and curves are numbered as in the job, `cicp` is its primaries value; what a plan
-/// lacks is zero. XYB has no free part, so all but its kind is zero.
+/// lacks is zero. XYB has maker and model and no other free part, so all but these and its kind is
+/// zero.
 #[derive(Clone, Debug, Default, PartialEq, Eq)]
 pub struct Plan {
     pub kind: u8,
     pub intent: u32,
+    pub device: Device,
     pub curve: u8,
     pub gamma: i32,
     pub cicp: u8,
@@ -56,6 +58,10 @@ pub fn read(file: &[u8]) -> Result<Plan, u32> {
     let table = tables::of_kind(kind).iter().find(|table| table.is_of(file));
     let mut plan = elements::read(file, kind, table.ok_or(25u32)?).ok_or(26u32)?;
     plan.intent = intent;
+    plan.device = Device {
+        maker: word(file, 48),
+        model: word(file, 52),
+    };
     if plan.numbers().any(|number| !in_range(number)) {
         return Err(27);
     }

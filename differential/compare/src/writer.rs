@@ -1,0 +1,250 @@
+//! The writer against the original: with maker and model zero, where its files are the original's, and
+//! with others, where they are these with the eight bytes changed and the id that is then due.
+
+use std::collections::BTreeMap;
+use std::fmt::{Display, Formatter, Result as Printed};
+
+use judge::answer;
+use judge::encoding::{Encoding, GRAY, RGB, XYB};
+use judge::inputs::{Random, devices, encodings};
+
+use crate::{PART, Run, Tally, port};
+
+/// From this many encodings on, each answer must have occurred.
+const ENOUGH: usize = 100_000;
+
+/// An output that is enough for every profile.
+const LONG: usize = 1300;
+
+/// After so many encodings comes one more that is tried with maker and model only.
+const BESIDE: usize = 16;
+
+/// Tries encodings in both ways. The second draws its numbers apart, so that the first has the
+/// encodings and outputs that the seed always had.
+pub fn writer(run: &mut Run) {
+    let mut random = Random::new(run.seed);
+    let mut plain = Tally::new("writer and dry call", run.count);
+    let mut with_device = WithDevice {
+        random: random.apart(),
+        tally: Tally::new(
+            "writer with maker and model",
+            run.count + run.count / BESIDE,
+        ),
+        met: Met::default(),
+    };
+    while plain.tried < run.count {
+        for (encoding, room) in calls(&mut random, PART.min(run.count - plain.tried)) {
+            let profile = answer::profile(&encoding);
+            let call = Call::new(&encoding, room, &profile);
+            let found = call.answers();
+            plain.add(&(encoding, room), &call.due(), &found);
+            with_device.call(&call, &found);
+            if plain.tried.is_multiple_of(BESIDE) {
+                with_device.beside(&encoding);
+            }
+        }
+    }
+    println!("{plain}");
+    run.differences += plain.different;
+    with_device.finish(run);
+}
+
+/// Encodings, each with an output of 1,300 bytes or, one in eight, of any length up to 800.
+fn calls(random: &mut Random, count: usize) -> Vec<(Encoding, usize)> {
+    let encodings = encodings::compared(random, count);
+    let mut room = || match random.below(8) {
+        0 => random.below(801) as usize,
+        _ => LONG,
+    };
+    encodings.into_iter().map(|one| (one, room())).collect()
+}
+
+// ---- one call
+
+/// What the output holds before a call.
+const FILL: u8 = 0xa5;
+
+/// What a call on an output of `room` bytes answers and leaves in it.
+#[derive(Debug, PartialEq)]
+pub struct Written {
+    answer: usize,
+    output: Vec<u8>,
+}
+
+impl Written {
+    /// What is due where the original gives these bytes or this refusal.
+    pub fn due(given: Result<&[u8], u32>, room: usize) -> Self {
+        let mut output = vec![FILL; room];
+        let answer = match given.and_then(|bytes| answer::within(bytes, room)) {
+            Ok(bytes) => {
+                output[..bytes.len()].copy_from_slice(bytes);
+                bytes.len()
+            }
+            Err(number) => number as usize,
+        };
+        Self { answer, output }
+    }
+
+    /// What a call of the port gives.
+    pub fn by(call: impl FnOnce(&mut [u8]) -> usize, room: usize) -> Self {
+        let mut output = vec![FILL; room];
+        let answer = call(&mut output);
+        Self { answer, output }
+    }
+}
+
+/// An encoding, the bytes of the output, and what the original gives: a profile or a refusal.
+struct Call<'a> {
+    encoding: &'a Encoding,
+    room: usize,
+    given: Result<&'a [u8], u32>,
+}
+
+/// What is answered with an output, and without one.
+#[derive(Debug, PartialEq)]
+struct Answers {
+    written: Written,
+    lengths: [usize; 5],
+}
+
+impl<'a> Call<'a> {
+    fn new(encoding: &'a Encoding, room: usize, profile: &'a Result<Vec<u8>, u32>) -> Self {
+        Self {
+            encoding,
+            room,
+            given: profile.as_deref().map_err(|number| *number),
+        }
+    }
+
+    /// What is due with maker and model zero.
+    fn due(&self) -> Answers {
+        let within = |capacity| self.given.and_then(|bytes| answer::within(bytes, capacity));
+        let length = |capacity| match within(capacity) {
+            Ok(bytes) => bytes.len(),
+            Err(number) => number as usize,
+        };
+        Answers {
+            written: Written::due(self.given, self.room),
+            lengths: lengths(length, self.room),
+        }
+    }
+
+    /// What the port answers.
+    fn answers(&self) -> Answers {
+        let write = |out: &mut [u8]| port::write(self.encoding, out) as usize;
+        let length = |capacity| port::length(self.encoding, capacity) as usize;
+        Answers {
+            written: Written::by(write, self.room),
+            lengths: lengths(length, self.room),
+        }
+    }
+}
+
+/// What is answered without an output: for `room` bytes, none, the most, as many as the answer for the most says, and one less.
+fn lengths(answer: impl Fn(usize) -> usize, room: usize) -> [usize; 5] {
+    let most = answer(usize::MAX);
+    [
+        answer(room),
+        answer(0),
+        most,
+        answer(most),
+        answer(most - 1),
+    ]
+}
+
+// ---- with maker and model
+
+struct WithDevice {
+    random: Random,
+    tally: Tally,
+    met: Met,
+}
+
+impl WithDevice {
+    /// The call with any maker and model. Its answer is also that of the call without them, and of the
+    /// dry call.
+    fn call(&mut self, call: &Call, plain: &Answers) {
+        let Call { encoding, room, .. } = *call;
+        let device = devices::any(&mut self.random);
+        let profile = call.given.map(|bytes| answer::with_device(bytes, device));
+        let given = profile.as_deref().map_err(|number| *number);
+        let due = Written::due(given, room);
+        self.met.add(encoding.kind, due.answer);
+        let answers = [due.answer; 2];
+        let write = |out: &mut [u8]| port::write_device(encoding, device, out) as usize;
+        let found = Written::by(write, room);
+        let [dry, ..] = plain.lengths;
+        self.tally.add(
+            &(encoding, device, room),
+            &(due, answers),
+            &(found, [plain.written.answer, dry]),
+        );
+    }
+
+    /// What the encodings of the comparison have little of: XYB, numbers without meaning, and outputs
+    /// of about the profile's length.
+    fn beside(&mut self, encoding: &Encoding) {
+        let random = &mut self.random;
+        let encoding = match random.below(3) {
+            0 => *encoding,
+            1 => Encoding::xyb(random.pick(&[0, 0, 0, 1, 2, 3])),
+            _ => encodings::without_meaning(random, *encoding),
+        };
+        let known = encoding.original().ok_or(43);
+        let profile = known.and_then(|_| answer::profile(&encoding));
+        let length = profile.as_ref().map_or(0, Vec::len);
+        let rooms = [length, length.saturating_sub(1), length + 1, 0, LONG];
+        let call = Call::new(&encoding, random.pick(&rooms), &profile);
+        self.call(&call, &call.answers());
+    }
+
+    fn finish(self, run: &mut Run) {
+        let Self { tally, met, .. } = self;
+        println!("{tally} ({met})");
+        run.differences += tally.different;
+        if run.count >= ENOUGH && met.lacks_one() {
+            println!("{}: an answer never occurred", tally.name);
+            run.differences += 1;
+        }
+    }
+}
+
+/// The kinds of files, and the refusals.
+const KINDS: [(u8, &str); 3] = [(GRAY, "gray"), (RGB, "RGB"), (XYB, "XYB")];
+const REFUSALS: [usize; 10] = [1, 2, 3, 4, 5, 6, 7, 8, 9, 43];
+
+/// How often each answer was due.
+#[derive(Default)]
+struct Met {
+    /// By kind.
+    files: BTreeMap<u8, u64>,
+    refused: BTreeMap<usize, u64>,
+}
+
+impl Met {
+    fn add(&mut self, kind: u8, answer: usize) {
+        let times = match REFUSALS.contains(&answer) {
+            true => self.refused.entry(answer).or_default(),
+            false => self.files.entry(kind).or_default(),
+        };
+        *times += 1;
+    }
+
+    fn lacks_one(&self) -> bool {
+        self.files.len() < KINDS.len() || self.refused.len() < REFUSALS.len()
+    }
+}
+
+impl Display for Met {
+    fn fmt(&self, f: &mut Formatter<'_>) -> Printed {
+        let files = KINDS.map(|(kind, name)| {
+            let times = self.files.get(&kind).unwrap_or(&0);
+            format!("{times} {name}")
+        });
+        write!(f, "{}", files.join(", "))?;
+        for (number, times) in &self.refused {
+            write!(f, ", {times} refused {number}")?;
+        }
+        Ok(())
+    }
+}
