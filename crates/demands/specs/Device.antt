@@ -1,40 +1,36 @@
--- Order 6, "Maker and model in the header": zeros give the old files; other files equal the old ones with these eight bytes and the id changed. That the dry
--- call and the count do not depend on the two is in DryCall, that they are read back in Demand3. Assumes nothing.
-use Prim.Native.Nat.{ℕ, _≤_, _<_}
-use mathlib.Core.Path.{_≡_, _∙_}
-use mathlib.Core.Logic.{_⊎_}
-use mathlib.Core.List.{List, _++_}
+-- Order 6, "Maker and model in the header": zeros give the old files; other files equal the old ones with these eight bytes and the id changed; what the
+-- writer answers does not depend on the two. (That the dry call answers so is in DryCall, that written files are read back with them in Demand3.)
+-- Assumes nothing.
+use Prim.Native.Nat.{ℕ}
+use mathlib.Core.Path.{_≡_, sym, _∙_}
+use mathlib.Core.List.{List}
 use lib.ListN.{length, take, getD}
-use Rattle.buffer.specs.Buffer.{put}
 use Rattle.buffer.specs.Checked.{is}
-use Rattle.words.specs.Words.{be32}
+use Rattle.color_encoding.specs.declared.JxlColorEncoding.{JxlColorEncoding}
 use Rattle.profile.specs.Plan.{Plan}
-use Rattle.profile.specs.Layout.{makerAt, idAt, profileId, layout}
+use Rattle.profile.specs.Layout.{layout}
 use Rattle.profile.specs.LayoutLaws.{length-device, layout-device}
 use Rattle.encoding_plan.specs.PlanOf.{planOf}
-use Rattle.encoding_plan.specs.EncodingPlan.{encodingPlan}
-use Rattle.encoding_plan.specs.EncodingPlanLaws.{plain-fields, devised}
+use Rattle.encoding_plan.specs.EncodingPlan.{encodingWith, plainEncoding, encodingPlan, countedEncodingPlan}
+use Rattle.encoding_plan.specs.EncodingPlanLaws.{plain-fields, plain-plan, devised}
 use Rattle.encoding_plan.specs.declared.Encoding.{Encoding}
-use Rattle.writer.specs.Writer.{Creates}
+use Rattle.writer.specs.Writer.{answer, Creates}
+use Rattle.writer.specs.WriterLaws.{any-device}
 use Rattle.writer.specs.declared.Profile.the-variants.{Written}
-use Rattle.demands.specs.OldLayout.{oldLayout}
+use Rattle.demands.specs.OldFiles.{oldLayout, patched, Elsewhere}
 use Rattle.demands.specs.DeviceLaws as Laws
 use Rattle.demands.specs.Demand3.{written}
 
--- a file with this maker and model in bytes 48 to 55, and then the id of that file
-abbrev pub patched : ℕ → ℕ → List ℕ → List ℕ
-patched maker model f = let g = put f makerAt (be32 maker ++ be32 model) in put g idAt (profileId g)
-
--- neither in maker and model nor in the id
-abbrev pub Elsewhere : ℕ → Type 0
-Elsewhere i = (i < 48) ⊎ (((56 ≤ i) × (i < 84)) ⊎ (100 ≤ i))
-
--- ---- a plan
+-- ---- zeros
 
 pub zeros-old : (p : Plan) → p .maker ≡ 0 → p .model ≡ 0 → layout p ≡ oldLayout p
 zeros-old p a b = Laws.zeros-old p a b
 
--- ---- an encoding: q is its plan, p that of its color encoding, which has zeros
+-- the plan of a job's entry and of a typed text is that of its color encoding, with zeros
+pub plain-zeros : (c : JxlColorEncoding) → encodingPlan (plainEncoding c) ≡ planOf c
+plain-zeros c = plain-plan c
+
+-- ---- other makers and models: q is the plan of an encoding, and `plan` that of its color encoding
 
 pub record Differs (e : Encoding) (q : Plan) : Type 0 where
   pub plan : Plan
@@ -58,6 +54,10 @@ differs e h =
       same-length = length-device p (e .maker) (e .model);
       elsewhere = Laws.elsewhere p (e .maker) (e .model);
     })
+
+-- the length, the count of rounded numbers and the refusal, on an output of n bytes
+pub same-answer : (c : JxlColorEncoding) (a b maker model n : ℕ) → answer (countedEncodingPlan (encodingWith a b c)) n ≡ answer (countedEncodingPlan (encodingWith maker model c)) n
+same-answer c a b maker model n = any-device (encodingWith a b c) n ∙ sym (any-device (encodingWith maker model c) n)
 
 -- ---- running code: `maybe_create_profile` ensures `Creates`
 

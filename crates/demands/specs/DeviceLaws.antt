@@ -12,11 +12,11 @@ use Rattle.buffer.specs.Buffer.{put}
 use Rattle.buffer.specs.BufferLaws.{length-put}
 use Rattle.buffer.specs.Bytes.{zeros}
 use Rattle.profile.specs.Elements.{file}
-use Rattle.profile.specs.Plan.{Plan, withDevice, kind}
+use Rattle.profile.specs.Plan.{Plan, withDevice}
 use Rattle.profile.specs.TagTypes.{join}
 use Rattle.profile.specs.Layout.{header, withId, profileId, layout}
 use Rattle.profile.specs.LayoutLaws.{length-header, length-id, layout-device}
-use Rattle.demands.specs.OldLayout.{oldWithId, oldLayout}
+use Rattle.demands.specs.OldFiles.{oldWithId, oldLayout, Elsewhere}
 
 -- ---- zeros
 
@@ -62,18 +62,18 @@ module _ (p : Plan) (a b : ℕ) where
   long : length put-device ≡ length (layout p)
   long = length-put (layout p) 48 device (omega (arith, eight, at-least-100 p))
 
-  pub elsewhere : (i : ℕ) → (i < 48) ⊎ (((56 ≤ i) × (i < 84)) ⊎ (100 ≤ i)) → getD (layout (withDevice a b p)) i 0 ≡ getD (layout p) i 0
+  pub elsewhere : (i : ℕ) → Elsewhere i → getD (layout (withDevice a b p)) i 0 ≡ getD (layout p) i 0
   elsewhere i h =
       ap (λ (l : List ℕ). getD l i 0) (layout-device p a b)
       ∙ outside put-device 84 (profileId put-device) i (omega (arith, long, length-id put-device, at-least-100 p)) (past-id h)
       ∙ outside (layout p) 48 device i (omega (arith, eight, at-least-100 p)) (past-device h)
     where
-      past-id : (i < 48) ⊎ (((56 ≤ i) × (i < 84)) ⊎ (100 ≤ i)) → (i < 84) ⊎ (84 + length (profileId put-device) ≤ i)
+      past-id : Elsewhere i → (i < 84) ⊎ (84 + length (profileId put-device) ≤ i)
       past-id (inl h) = inl (omega arith)
       past-id (inr (inl h)) = inl (h .1)
       past-id (inr (inr h)) = inr (omega (arith, length-id put-device))
 
-      past-device : (i < 48) ⊎ (((56 ≤ i) × (i < 84)) ⊎ (100 ≤ i)) → (i < 48) ⊎ (48 + length device ≤ i)
+      past-device : Elsewhere i → (i < 48) ⊎ (48 + length device ≤ i)
       past-device (inl h) = inl h
       past-device (inr (inl h)) = inr (omega (arith, eight, h .0))
       past-device (inr (inr h)) = inr (omega (arith, eight))

@@ -11,6 +11,6 @@ pub mod TypedText
 pub mod SegmentsInCLaws
 pub mod SegmentsInC
 pub mod RoundedCount
-pub mod OldLayout
+pub mod OldFiles
 pub mod DeviceLaws
 pub mod Device

@@ -12,8 +12,8 @@ ghost use Rattle.encoding_plan.specs.EncodingPlan.{plainEncoding};
 ghost use Rattle.encoding_plan.specs.FixedFloats.{countedPlan};
 ghost use Rattle.encoding_plan.specs.Answers.{checkedPlan};
 
-// An encoding of the users: the color encoding of the image, and the device's manufacturer and model for the profile's header, four bytes each, the
-// first the most significant.
+// An encoding: the color encoding, and the device's manufacturer and model for the header of its profile, four bytes each, the first the most
+// significant.
 pub struct Encoding {
     pub color: JxlColorEncoding,
     pub maker: u32,

@@ -60,22 +60,22 @@ length-beforeId : length beforeId ≡ 16
 length-beforeId = simp (length-append, length-s15Fixed16s)
 
 -- what stands between the flags and the intent: maker, model and attributes
-device : ℕ → ℕ → List ℕ
-device a b = be32 a ++ (be32 b ++ zeros 8)
+deviceFields : ℕ → ℕ → List ℕ
+deviceFields a b = be32 a ++ (be32 b ++ zeros 8)
 
-length-sixteen : (a b : ℕ) → length (device a b) ≡ 16
-unfolding device
-length-sixteen a b = simp (length-append, length-be32)
+length-deviceFields : (a b : ℕ) → length (deviceFields a b) ≡ 16
+unfolding deviceFields
+length-deviceFields a b = simp (length-append, length-be32)
 
 parts : (k : Kind) (v : Layout.Varying) (r : List ℕ)
-    → Layout.header k v ++ r ≡ beforeFlags k (v .size) ++ (zeros 4 ++ (device (v .maker) (v .model) ++ (be32 (v .intent) ++ (beforeId ++ (v .id ++ (zeros 28 ++ r))))))
-unfolding Layout.header join beforeFlags device
+    → Layout.header k v ++ r ≡ beforeFlags k (v .size) ++ (zeros 4 ++ (deviceFields (v .maker) (v .model) ++ (be32 (v .intent) ++ (beforeId ++ (v .id ++ (zeros 28 ++ r))))))
+unfolding Layout.header join beforeFlags deviceFields
 parts k v r = simp (append-assoc, append-nil)
 
 pub length-header : (k : Kind) (v : Layout.Varying) → length (v .id) ≡ 16 → length (Layout.header k v) ≡ headerSize
 length-header k v h =
     ap length (sym (append-nil (Layout.header k v)) ∙ parts k v [])
-    ∙ simp (length-append, length-beforeFlags, length-sixteen, length-be32, length-s15Fixed16s, h)
+    ∙ simp (length-append, length-beforeFlags, length-deviceFields, length-be32, length-s15Fixed16s, h)
 
 past-two : (a b r : List ℕ) (n m : ℕ) → length a ≡ n → length b ≡ m → drop (n + m) (a ++ (b ++ r)) ≡ r
 past-two a b r n m la lb = sym (drop-drop m n (a ++ (b ++ r))) ∙ ap (drop m) (drop-at a (b ++ r) n la) ∙ drop-at b r m lb
@@ -95,8 +95,8 @@ header-blanked : (k : Kind) (v : Layout.Varying) (r : List ℕ) → length (v .i
     → Layout.blanked (Layout.header k v ++ r) ≡ Layout.blankHeader k (v .size) (v .maker) (v .model) ++ r
 header-blanked k v r h =
     ap Layout.blanked (parts k v r)
-    ∙ blank (beforeFlags k (v .size)) (zeros 4) (device (v .maker) (v .model)) (be32 (v .intent)) beforeId (v .id) _ (length-beforeFlags k (v .size)) refl (length-sixteen (v .maker) (v .model)) (length-be32 (v .intent)) length-beforeId h
-    ∙ sym (parts k (underId (zeros 16) (withIntent 0 v)) r ∙ ap (λ (z : List ℕ). beforeFlags k (v .size) ++ (zeros 4 ++ (device (v .maker) (v .model) ++ (z ++ (beforeId ++ (zeros 16 ++ (zeros 28 ++ r))))))) be32-zero)
+    ∙ blank (beforeFlags k (v .size)) (zeros 4) (deviceFields (v .maker) (v .model)) (be32 (v .intent)) beforeId (v .id) _ (length-beforeFlags k (v .size)) refl (length-deviceFields (v .maker) (v .model)) (length-be32 (v .intent)) length-beforeId h
+    ∙ sym (parts k (underId (zeros 16) (withIntent 0 v)) r ∙ ap (λ (z : List ℕ). beforeFlags k (v .size) ++ (zeros 4 ++ (deviceFields (v .maker) (v .model) ++ (z ++ (beforeId ++ (zeros 16 ++ (zeros 28 ++ r))))))) be32-zero)
 
 -- ---- a header with one of its fields put anew, and what follows it
 
@@ -106,7 +106,7 @@ header-put-device k v a b r =
     let before : List ℕ = beforeFlags k (v .size) ++ zeros 4 in
     let rest : List ℕ = zeros 8 ++ (be32 (v .intent) ++ (beforeId ++ (v .id ++ (zeros 28 ++ r)))) in
     let up-to : (m n : ℕ) → Layout.header k (byDevice m n v) ++ r ≡ before ++ ((be32 m ++ be32 n) ++ rest) =
-    λ m n. parts k (byDevice m n v) r ∙ (unfold device in simp append-assoc) in
+    λ m n. parts k (byDevice m n v) r ∙ (unfold deviceFields in simp append-assoc) in
     ap (λ (l : List ℕ). put l 48 (be32 a ++ be32 b)) (up-to (v .maker) (v .model))
     ∙ put-over before (be32 (v .maker) ++ be32 (v .model)) rest (be32 a ++ be32 b) 48 (rw (length-append, length-beforeFlags k (v .size)) refl) (simp (length-append, length-be32))
     ∙ sym (up-to a b)
@@ -114,20 +114,20 @@ header-put-device k v a b r =
 pub header-put-intent : (k : Kind) (v : Layout.Varying) (j : ℕ) (r : List ℕ)
     → put (Layout.header k v ++ r) 64 (be32 j) ≡ Layout.header k (withIntent j v) ++ r
 header-put-intent k v j r =
-    let before : List ℕ = beforeFlags k (v .size) ++ (zeros 4 ++ device (v .maker) (v .model)) in
+    let before : List ℕ = beforeFlags k (v .size) ++ (zeros 4 ++ deviceFields (v .maker) (v .model)) in
     let rest : List ℕ = beforeId ++ (v .id ++ (zeros 28 ++ r)) in
     let up-to : (m : ℕ) → Layout.header k (withIntent m v) ++ r ≡ before ++ (be32 m ++ rest) = λ m. parts k (withIntent m v) r ∙ simp append-assoc in
     ap (λ (l : List ℕ). put l 64 (be32 j)) (up-to (v .intent))
-    ∙ put-over before (be32 (v .intent)) rest (be32 j) 64 (simp (length-append, length-beforeFlags, length-sixteen)) (length-be32 j ∙ sym (length-be32 (v .intent)))
+    ∙ put-over before (be32 (v .intent)) rest (be32 j) 64 (simp (length-append, length-beforeFlags, length-deviceFields)) (length-be32 j ∙ sym (length-be32 (v .intent)))
     ∙ sym (up-to j)
 
 pub header-put-id : (k : Kind) (v : Layout.Varying) (e r : List ℕ) → length (v .id) ≡ 16 → length e ≡ 16
     → put (Layout.header k v ++ r) 84 e ≡ Layout.header k (underId e v) ++ r
 header-put-id k v e r h g =
-    let before : List ℕ = beforeFlags k (v .size) ++ (zeros 4 ++ (device (v .maker) (v .model) ++ (be32 (v .intent) ++ beforeId))) in
+    let before : List ℕ = beforeFlags k (v .size) ++ (zeros 4 ++ (deviceFields (v .maker) (v .model) ++ (be32 (v .intent) ++ beforeId))) in
     let up-to : (m : List ℕ) → Layout.header k (underId m v) ++ r ≡ before ++ (m ++ (zeros 28 ++ r)) = λ m. parts k (underId m v) r ∙ simp append-assoc in
     ap (λ (l : List ℕ). put l 84 e) (up-to (v .id))
-    ∙ put-over before (v .id) (zeros 28 ++ r) e 84 (simp (length-append, length-beforeFlags, length-sixteen, length-be32, length-s15Fixed16s)) (g ∙ sym h)
+    ∙ put-over before (v .id) (zeros 28 ++ r) e 84 (simp (length-append, length-beforeFlags, length-deviceFields, length-be32, length-s15Fixed16s)) (g ∙ sym h)
     ∙ sym (up-to e)
 
 -- ---- the length of a plan's file
