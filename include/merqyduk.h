@@ -345,8 +345,21 @@ static inline uint32_t merqyduk_length_counted(const struct merqyduk_encoding *e
 
 static inline uint32_t merqyduk_write_counted(const struct merqyduk_encoding *e, uint8_t *out, size_t out_len,
                                               uint32_t *rounded) {
-    merqyduk_length_counted(e, out_len, rounded); /* the count, which does not depend on maker and model */
-    return merqyduk_write(e, out, out_len);
+    if (e->maker != 0 || e->model != 0) {
+        merqyduk_length_counted(e, out_len, rounded); /* the count does not depend on maker and model */
+        return merqyduk_write(e, out, out_len);
+    }
+    switch (e->space) {
+    case MERQYDUK_SPACE_GRAY:
+        return merqyduk_write_gray_counted(e->white, e->wx, e->wy, e->curve, e->gamma, e->intent, out, out_len, rounded);
+    case MERQYDUK_SPACE_RGB:
+        return merqyduk_write_rgb_counted(e->white, e->wx, e->wy, e->primaries, e->rx, e->ry, e->gx, e->gy, e->bx,
+                                          e->by, e->curve, e->gamma, e->intent, out, out_len, rounded);
+    case MERQYDUK_SPACE_XYB:
+        return merqyduk_write_xyb_counted(e->intent, out, out_len, rounded);
+    default:
+        return MERQYDUK_REFUSED_MEANING;
+    }
 }
 
 /* A record is an encoding as MERQYDUK_ENCODING_SIZE bytes: the space, and then the 40 bytes of an RGB entry of a job:
