@@ -11,7 +11,7 @@ use Rattle.encoding_plan.specs.declared.Encoding.{Encoding}
 use Rattle.writer.specs.Writer.{number, Creates, MeasuresProfile}
 use Rattle.writer.specs.WriterLaws.{any-device, any-device-coded}
 use Rattle.writer.specs.declared.Profile.{Profile}
-use Rattle.host.specs.Host.{WritesCode, MeasuresCode}
+use Rattle.coded_writer.specs.CodedWriter.{WritesCode, MeasuresCode}
 
 -- `maybe_create_profile` ensures `Creates`, and `profile_length` ensures `MeasuresProfile`
 pub same-answer : (e : Encoding) (before after : List ℕ) (written dry : Profile)

@@ -19,7 +19,7 @@ use Rattle.writer.specs.declared.Profile.{Profile}
 use Rattle.writer.specs.declared.Profile.the-variants.{Written, Refused}
 use Rattle.writer_laws.specs.FileNumbers.{numberCount}
 use Rattle.writer_laws.specs.NumbersOfFloats.{most-rounded}
-use Rattle.host.specs.Host.{codeAnswer, WritesCounted, MeasuresCounted}
+use Rattle.coded_writer.specs.CodedWriter.{codeAnswer, WritesCounted, MeasuresCounted}
 use Rattle.demands.specs.Demand3Laws.{count-of}
 
 -- ---- `maybe_create_profile` ensures `Creates`; the dry call answers the same (DryCall)

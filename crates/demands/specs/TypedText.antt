@@ -13,7 +13,8 @@ use Rattle.description_parser.specs.Parse.{parse}
 use Rattle.description_laws.specs.Reads.{answers-encoding, answers-51, answers-52}
 use Rattle.description_laws.specs.HeldLaws.{typed-held}
 use Rattle.encoding_record.specs.EncodingRecord.{encodingSize, encodingBy}
-use Rattle.host.specs.Host.{StoresEncoding, WritesCode}
+use Rattle.coded_writer.specs.CodedWriter.{WritesCode}
+use Rattle.host.specs.Host.{StoresEncoding}
 use Rattle.demands.specs.TypedTextLaws.{record-of, when-refused, when-short, when-stored, reason, why}
 use Rattle.demands.specs.TypedTextLaws.{told-0, told-51, told-52, told-9, told-unchanged, told-number}
 

@@ -1,6 +1,6 @@
--- The calls from C: what each answers, and what it leaves in what it is lent. The numbers are those of 01's refusal list. A call that takes an encoding
--- refuses 43 first, as 01 says of the host; one that takes a job after 41 and 42, as in the list. (A call that writes the profile of an entry promises
--- what `ProfileOf` of job_output says, its answer as one number.) Assumes nothing.
+-- The calls from C on jobs, files, texts and segments: what each answers, and what it leaves in what it is lent. The numbers are those of 01's refusal list.
+-- (A call that takes an encoding by codes promises what `CodedWriter` of coded_writer says; one that writes the profile of an entry of a job, what
+-- `ProfileOf` of job_output says, its answer as one number.) Assumes nothing.
 use Prim.Native.Nat.{ℕ}
 use mathlib.Core.Path.{_≡_}
 use mathlib.Core.Bool.{cond}
@@ -10,11 +10,8 @@ use lib.ListN.{length}
 use Rattle.buffer.specs.Buffer.{put}
 use Rattle.buffer.specs.Checked.{Checked, is, refused, valueOr, then}
 use Rattle.color_encoding.specs.declared.JxlColorEncoding.{JxlColorEncoding}
-use Rattle.encoding_plan.specs.FixedFloats.{countedPlan}
-use Rattle.encoding_plan.specs.EncodingPlan.{encodingWith}
 use Rattle.profile.specs.Elements.{Entry}
-use Rattle.writer.specs.Writer.{tooShort, answer, number, countAfter, profileBy, Writes}
-use Rattle.writer.specs.declared.Profile.{Profile}
+use Rattle.writer.specs.Writer.{tooShort}
 use Rattle.job.specs.declared.JobAnswer.{JobAnswer}
 use Rattle.job.specs.declared.JobAnswer.the-variants as A
 use Rattle.job_output.specs.declared.JobProfile.{JobProfile}
@@ -23,31 +20,6 @@ use Rattle.reading.specs.declared.Reading.{Reading}
 use Rattle.plan_record.specs.PlanRecord.{recordSize, planRecord}
 use Rattle.encoding_record.specs.EncodingRecord.{encodingSize, encodingRecord}
 use Rattle.app2.specs.App2 as App2
-
--- ---- the profile of an encoding that comes by codes
-
--- the writer's answer to what the codes mean, on an output of n bytes, whatever maker and model are (writer, WriterLaws)
-abbrev pub codeAnswer : Checked JxlColorEncoding → ℕ → Profile
-codeAnswer c n = answer (then c countedPlan) n
-
--- the writer's promise, with this maker and this model, its answer as one number, which tells that answer but for its count
-pub record WritesCode (maker model : ℕ) (c : Checked JxlColorEncoding) (before after : List ℕ) (r : ℕ) : Type 0 where
-  pub writes : Writes number (then c (λ e. is (encodingWith maker model e))) before after r
-  pub told : (k : ℕ) → profileBy r (countAfter (codeAnswer c (length before)) k) ≡ codeAnswer c (length before)
-
--- the writer's answer on an output of n bytes, as one number, which tells it but for its count
-pub record MeasuresCode (c : Checked JxlColorEncoding) (n r : ℕ) : Type 0 where
-  pub told : (k : ℕ) → profileBy r (countAfter (codeAnswer c n) k) ≡ codeAnswer c n
-  pub answer : r ≡ number (codeAnswer c n)
-
--- both with the count in a lent number, which was k at entry and is m at exit; maker and model are zero
-pub record WritesCounted (c : Checked JxlColorEncoding) (before after : List ℕ) (k m r : ℕ) : Type 0 where
-  pub writes : WritesCode 0 0 c before after r
-  pub rounded : m ≡ countAfter (codeAnswer c (length before)) k
-
-pub record MeasuresCounted (c : Checked JxlColorEncoding) (n k m r : ℕ) : Type 0 where
-  pub measures : MeasuresCode c n r
-  pub rounded : m ≡ countAfter (codeAnswer c n) k
 
 -- ---- a job: how many entries it has
 

@@ -1,4 +1,4 @@
--- What the writer and the calls on segments promise, as a C call promises it; and what the calls on files promise, by each of their answers.
+-- What the calls on segments promise, as a C call promises it; and what the calls on files promise, by each of their answers.
 -- Assumes nothing.
 use Prim.Native.Nat.{ℕ, _≤_, _<_}
 use mathlib.Core.Path.{_≡_, refl, sym, ap, _∙_}
@@ -9,41 +9,13 @@ use Rattle.buffer.specs.Buffer.{put}
 use Rattle.buffer.specs.Checked.{Checked, is, refused}
 use Rattle.color_encoding.specs.declared.JxlColorEncoding.{JxlColorEncoding}
 use Rattle.profile.specs.Elements.{Entry}
-use Rattle.encoding_plan.specs.EncodingPlan.{encodingWith, plainEncoding}
-use Rattle.writer.specs.Writer.{tooShort, number, countAfter, profileBy, Creates, MeasuresProfile}
-use Rattle.writer.specs.declared.Profile.{Profile}
-use Rattle.writer.specs.WriterLaws.{any-device}
-use Rattle.writer_laws.specs.RefusalNumbers.{answer-told}
+use Rattle.writer.specs.Writer.{tooShort}
 use Rattle.reading.specs.declared.Reading.{Reading}
 use Rattle.plan_record.specs.PlanRecord.{recordSize, planRecord}
 use Rattle.encoding_record.specs.EncodingRecord.{encodingSize, encodingRecord}
 use Rattle.app2.specs.App2 as App2
 use Rattle.app2.specs.declared.Output.{Output}
-use Rattle.host.specs.Host.{codeAnswer, WritesCode, MeasuresCode, WritesCounted, MeasuresCounted, ReadsPlan, StoresEncoding, FindsElement, GivesNumber}
-
--- the answer q, as the one number that it is, without an output
-pub code-measured : {e : JxlColorEncoding} {n : ℕ} {p q : Profile} → MeasuresProfile e n p → p ≡ q → MeasuresCode (is e) n (number q)
-code-measured {e} {n} m same =
-    let known = sym same ∙ m .answer in
-    record { told = λ k. ap (λ (r : Profile). profileBy (number r) (countAfter (codeAnswer (is e) n) k)) known ∙ answer-told e (m .held) n k; answer = ap number known }
-
--- and with one
-pub code-written : {e : JxlColorEncoding} {a b : ℕ} {before after : List ℕ} {p q : Profile} → Creates (encodingWith a b e) before after p → p ≡ q
-    → WritesCode a b (is e) before after (number q)
-code-written {e} {a} {b} {before} w same =
-    let any = any-device (encodingWith a b e) (length before) in
-    let m = code-measured {e = e} {n = length before} (record { answer = w .writes .answer ∙ any; held = w .held }) same in
-    record { writes = record { answer = m .answer ∙ ap number (sym any); output = w .writes .output }; told = m .told }
-
--- ---- with the count in a lent number
-
-pub count-measured : {e : JxlColorEncoding} {n : ℕ} (k : ℕ) {p : Profile} → MeasuresProfile e n p → MeasuresCounted (is e) n k (countAfter p k) (number p)
-count-measured k m = record { measures = code-measured m refl; rounded = ap (λ (r : Profile). countAfter r k) (m .answer) }
-
-pub count-written : {e : JxlColorEncoding} {before after : List ℕ} (k : ℕ) {p : Profile} → Creates (plainEncoding e) before after p
-    → WritesCounted (is e) before after k (countAfter p k) (number p)
-count-written {e} {before} k w =
-    record { writes = code-written w refl; rounded = ap (λ (r : Profile). countAfter r k) (w .writes .answer ∙ any-device (plainEncoding e) (length before)) }
+use Rattle.host.specs.Host.{ReadsPlan, StoresEncoding, FindsElement, GivesNumber}
 
 -- ---- a file read into a lent record
 

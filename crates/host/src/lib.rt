@@ -2,16 +2,13 @@
 // these entries. An encoding comes as numbers, a job, a file, a text and segments as bytes, and the output is lent. A call that writes answers the length of
 // what it wrote (284 or more) or a number below 100, and then the output is unchanged; one that reads answers 0 or a number, and then the lent record is unchanged.
 use app2::Output;
-use color_encoding::EncodingCode;
 use description_parser::Parsed;
-use encoding_plan::Encoding;
 use job::JobAnswer;
 use job_output::JobProfile;
-use writer::Profile;
 ghost use mathlib.Core.Path.{_≡_};
 ghost use lib.ListN.{length};
 ghost use Rattle.color_encoding.specs.Codes.{whitePointFrom, primariesFrom, transferFunctionFrom, intentFrom};
-ghost use Rattle.color_encoding.specs.Codes.{knownEncoding, grayFrom, rgbFrom, xybFrom};
+ghost use Rattle.color_encoding.specs.Codes.{grayFrom, rgbFrom, xybFrom};
 ghost use Rattle.description_parser.specs.Parse.{parse};
 ghost use Rattle.job.specs.Job as Job;
 ghost use Rattle.job.specs.Job.{jobAnswer, entryAnswer};
@@ -21,32 +18,10 @@ ghost use Rattle.reader_spec.specs.Read as Read;
 ghost use Rattle.reader_spec.specs.Finder as Finder;
 ghost use Rattle.reading.specs.Reading.{reading};
 ghost use Rattle.app2.specs.App2.{writtenSegments, joinedFile};
-ghost use Rattle.writer.specs.Writer.{number, countAfter};
-ghost use Rattle.host.specs.Host.{WritesCode, MeasuresCode, WritesCounted, MeasuresCounted, CountsEntries, profileNumber, ReadsPlan, StoresEncoding, FindsElement, GivesNumber};
+ghost use Rattle.coded_writer.specs.CodedWriter.{WritesCode, MeasuresCode, WritesCounted, MeasuresCounted};
+ghost use Rattle.host.specs.Host.{CountsEntries, profileNumber, ReadsPlan, StoresEncoding, FindsElement, GivesNumber};
 
 // ---- the profile of an encoding
-
-fn write(code: EncodingCode, maker: u32, model: u32, out: &mut [u8]) -> u32
-    ensures { λ r. ⌜ WritesCode maker model (knownEncoding code) (now (out .entry)) (now (out .exit)) r ⌝ }
-{
-    match code {
-        EncodingCode::Known(color) => {
-            let encoding = Encoding {
-                color,
-                maker,
-                model,
-            };
-            match writer::maybe_create_profile(encoding, out) {
-                Profile::Written {
-                    length: n,
-                    rounded: _,
-                } => n,
-                Profile::Refused(number) => number,
-            }
-        }
-        EncodingCode::Unknown => color_encoding::UNKNOWN,
-    }
-}
 
 #[no_mangle]
 pub extern "C" fn merqyduk_write_gray(
@@ -60,7 +35,7 @@ pub extern "C" fn merqyduk_write_gray(
 ) -> u32
     ensures { λ r. ⌜ WritesCode 0 0 (grayFrom (whitePointFrom white wx wy) (transferFunctionFrom curve gamma) (intentFrom intent)) (now (out .entry)) (now (out .exit)) r ⌝ }
 {
-    write(
+    coded_writer::write(
         encoding_codes::gray_from_numbers(white, wx, wy, curve, gamma, intent),
         0,
         0,
@@ -87,7 +62,7 @@ pub extern "C" fn merqyduk_write_rgb(
 ) -> u32
     ensures { λ r. ⌜ WritesCode 0 0 (rgbFrom (whitePointFrom white wx wy) (primariesFrom primaries rx ry gx gy bx by) (transferFunctionFrom curve gamma) (intentFrom intent)) (now (out .entry)) (now (out .exit)) r ⌝ }
 {
-    write(
+    coded_writer::write(
         encoding_codes::rgb_from_numbers(
             white,
             wx,
@@ -113,7 +88,7 @@ pub extern "C" fn merqyduk_write_rgb(
 pub extern "C" fn merqyduk_write_xyb(intent: u32, out: &mut [u8]) -> u32
     ensures { λ r. ⌜ WritesCode 0 0 (xybFrom (intentFrom intent)) (now (out .entry)) (now (out .exit)) r ⌝ }
 {
-    write(encoding_codes::xyb_from_number(intent), 0, 0, out)
+    coded_writer::write(encoding_codes::xyb_from_number(intent), 0, 0, out)
 }
 
 // ---- the same with maker and model, four bytes each, the first the most significant
@@ -132,7 +107,7 @@ pub extern "C" fn merqyduk_write_gray_device(
 ) -> u32
     ensures { λ r. ⌜ WritesCode maker model (grayFrom (whitePointFrom white wx wy) (transferFunctionFrom curve gamma) (intentFrom intent)) (now (out .entry)) (now (out .exit)) r ⌝ }
 {
-    write(
+    coded_writer::write(
         encoding_codes::gray_from_numbers(white, wx, wy, curve, gamma, intent),
         maker,
         model,
@@ -161,7 +136,7 @@ pub extern "C" fn merqyduk_write_rgb_device(
 ) -> u32
     ensures { λ r. ⌜ WritesCode maker model (rgbFrom (whitePointFrom white wx wy) (primariesFrom primaries rx ry gx gy bx by) (transferFunctionFrom curve gamma) (intentFrom intent)) (now (out .entry)) (now (out .exit)) r ⌝ }
 {
-    write(
+    coded_writer::write(
         encoding_codes::rgb_from_numbers(
             white,
             wx,
@@ -192,25 +167,10 @@ pub extern "C" fn merqyduk_write_xyb_device(
 ) -> u32
     ensures { λ r. ⌜ WritesCode maker model (xybFrom (intentFrom intent)) (now (out .entry)) (now (out .exit)) r ⌝ }
 {
-    write(encoding_codes::xyb_from_number(intent), maker, model, out)
+    coded_writer::write(encoding_codes::xyb_from_number(intent), maker, model, out)
 }
 
 // ---- the length of a profile, before there is memory for it
-
-fn length(code: EncodingCode, capacity: usize) -> u32
-    ensures { λ r. ⌜ MeasuresCode (knownEncoding code) capacity r ⌝ }
-{
-    let EncodingCode::Known(encoding) = code else {
-        return color_encoding::UNKNOWN;
-    };
-    match writer::profile_length(encoding, capacity) {
-        Profile::Written {
-            length: n,
-            rounded: _,
-        } => n,
-        Profile::Refused(number) => number,
-    }
-}
 
 #[no_mangle]
 pub extern "C" fn merqyduk_length_gray(
@@ -224,7 +184,7 @@ pub extern "C" fn merqyduk_length_gray(
 ) -> u32
     ensures { λ r. ⌜ MeasuresCode (grayFrom (whitePointFrom white wx wy) (transferFunctionFrom curve gamma) (intentFrom intent)) capacity r ⌝ }
 {
-    length(
+    coded_writer::length(
         encoding_codes::gray_from_numbers(white, wx, wy, curve, gamma, intent),
         capacity,
     )
@@ -249,7 +209,7 @@ pub extern "C" fn merqyduk_length_rgb(
 ) -> u32
     ensures { λ r. ⌜ MeasuresCode (rgbFrom (whitePointFrom white wx wy) (primariesFrom primaries rx ry gx gy bx by) (transferFunctionFrom curve gamma) (intentFrom intent)) capacity r ⌝ }
 {
-    length(
+    coded_writer::length(
         encoding_codes::rgb_from_numbers(
             white,
             wx,
@@ -273,46 +233,10 @@ pub extern "C" fn merqyduk_length_rgb(
 pub extern "C" fn merqyduk_length_xyb(intent: u32, capacity: usize) -> u32
     ensures { λ r. ⌜ MeasuresCode (xybFrom (intentFrom intent)) capacity r ⌝ }
 {
-    length(encoding_codes::xyb_from_number(intent), capacity)
+    coded_writer::length(encoding_codes::xyb_from_number(intent), capacity)
 }
 
 // ---- both with how many fixed numbers were rounded: in a lent number, which a refusal leaves as it was
-
-fn answered(profile: Profile, rounded: &mut u32) -> u32
-    ensures { λ r. ⌜ (r ≡ number profile) × (now (rounded .exit) ≡ countAfter profile (now (rounded .entry))) ⌝ }
-{
-    match profile {
-        Profile::Written {
-            length: n,
-            rounded: count,
-        } => {
-            *rounded = count;
-            n
-        }
-        Profile::Refused(k) => k,
-    }
-}
-
-fn write_counted(code: EncodingCode, out: &mut [u8], rounded: &mut u32) -> u32
-    ensures { λ r. ⌜ WritesCounted (knownEncoding code) (now (out .entry)) (now (out .exit)) (now (rounded .entry)) (now (rounded .exit)) r ⌝ }
-{
-    let EncodingCode::Known(encoding) = code else {
-        return color_encoding::UNKNOWN;
-    };
-    answered(
-        writer::maybe_create_profile(encoding_plan::plain_encoding(encoding), out),
-        rounded,
-    )
-}
-
-fn length_counted(code: EncodingCode, capacity: usize, rounded: &mut u32) -> u32
-    ensures { λ r. ⌜ MeasuresCounted (knownEncoding code) capacity (now (rounded .entry)) (now (rounded .exit)) r ⌝ }
-{
-    let EncodingCode::Known(encoding) = code else {
-        return color_encoding::UNKNOWN;
-    };
-    answered(writer::profile_length(encoding, capacity), rounded)
-}
 
 #[no_mangle]
 pub extern "C" fn merqyduk_write_gray_counted(
@@ -327,7 +251,7 @@ pub extern "C" fn merqyduk_write_gray_counted(
 ) -> u32
     ensures { λ r. ⌜ WritesCounted (grayFrom (whitePointFrom white wx wy) (transferFunctionFrom curve gamma) (intentFrom intent)) (now (out .entry)) (now (out .exit)) (now (rounded .entry)) (now (rounded .exit)) r ⌝ }
 {
-    write_counted(
+    coded_writer::write_counted(
         encoding_codes::gray_from_numbers(white, wx, wy, curve, gamma, intent),
         out,
         rounded,
@@ -354,7 +278,7 @@ pub extern "C" fn merqyduk_write_rgb_counted(
 ) -> u32
     ensures { λ r. ⌜ WritesCounted (rgbFrom (whitePointFrom white wx wy) (primariesFrom primaries rx ry gx gy bx by) (transferFunctionFrom curve gamma) (intentFrom intent)) (now (out .entry)) (now (out .exit)) (now (rounded .entry)) (now (rounded .exit)) r ⌝ }
 {
-    write_counted(
+    coded_writer::write_counted(
         encoding_codes::rgb_from_numbers(
             white,
             wx,
@@ -379,7 +303,7 @@ pub extern "C" fn merqyduk_write_rgb_counted(
 pub extern "C" fn merqyduk_write_xyb_counted(intent: u32, out: &mut [u8], rounded: &mut u32) -> u32
     ensures { λ r. ⌜ WritesCounted (xybFrom (intentFrom intent)) (now (out .entry)) (now (out .exit)) (now (rounded .entry)) (now (rounded .exit)) r ⌝ }
 {
-    write_counted(encoding_codes::xyb_from_number(intent), out, rounded)
+    coded_writer::write_counted(encoding_codes::xyb_from_number(intent), out, rounded)
 }
 
 #[no_mangle]
@@ -395,7 +319,7 @@ pub extern "C" fn merqyduk_length_gray_counted(
 ) -> u32
     ensures { λ r. ⌜ MeasuresCounted (grayFrom (whitePointFrom white wx wy) (transferFunctionFrom curve gamma) (intentFrom intent)) capacity (now (rounded .entry)) (now (rounded .exit)) r ⌝ }
 {
-    length_counted(
+    coded_writer::length_counted(
         encoding_codes::gray_from_numbers(white, wx, wy, curve, gamma, intent),
         capacity,
         rounded,
@@ -422,7 +346,7 @@ pub extern "C" fn merqyduk_length_rgb_counted(
 ) -> u32
     ensures { λ r. ⌜ MeasuresCounted (rgbFrom (whitePointFrom white wx wy) (primariesFrom primaries rx ry gx gy bx by) (transferFunctionFrom curve gamma) (intentFrom intent)) capacity (now (rounded .entry)) (now (rounded .exit)) r ⌝ }
 {
-    length_counted(
+    coded_writer::length_counted(
         encoding_codes::rgb_from_numbers(
             white,
             wx,
@@ -451,7 +375,7 @@ pub extern "C" fn merqyduk_length_xyb_counted(
 ) -> u32
     ensures { λ r. ⌜ MeasuresCounted (xybFrom (intentFrom intent)) capacity (now (rounded .entry)) (now (rounded .exit)) r ⌝ }
 {
-    length_counted(encoding_codes::xyb_from_number(intent), capacity, rounded)
+    coded_writer::length_counted(encoding_codes::xyb_from_number(intent), capacity, rounded)
 }
 
 // ---- the encoding that a typed text describes

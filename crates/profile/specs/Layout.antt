@@ -104,11 +104,13 @@ abbrev pub front : Kind → List ℕ
 front k =
     join (Sig.jxl ∷ (4 ∷ 64 ∷ 0 ∷ 0 ∷ []) ∷ class k ∷ space k ∷ Sig.XYZ ∷ be16 2019 ∷ be16 12 ∷ be16 1 ∷ zeros 6 ∷ Sig.acsp ∷ Sig.APPL ∷ [])
 
--- flags; device manufacturer, model and attributes; intent; PCS illuminant; creator; id; reserved
+-- size; the above; flags; device manufacturer, model and attributes; intent; PCS illuminant; creator; id; reserved
+abbrev pub headerFields : Kind → Varying → List (List ℕ)
+headerFields k v =
+    be32 (v .size) ∷ front k ∷ zeros 4 ∷ be32 (v .maker) ∷ be32 (v .model) ∷ zeros 8 ∷ be32 (v .intent) ∷ s15Fixed16s D50 ∷ Sig.jxl ∷ v .id ∷ zeros 28 ∷ []
+
 unfoldable pub header : Kind → Varying → List ℕ
-header k v =
-    join
-    (be32 (v .size) ∷ front k ∷ zeros 4 ∷ be32 (v .maker) ∷ be32 (v .model) ∷ zeros 8 ∷ be32 (v .intent) ∷ s15Fixed16s D50 ∷ Sig.jxl ∷ v .id ∷ zeros 28 ∷ [])
+header k v = join (headerFields k v)
 
 -- what the header of a plan says, in a file of n bytes
 abbrev pub varying : ℕ → List ℕ → Plan → Varying

@@ -4,7 +4,7 @@ use mathlib.Core.Path.{_≡_, refl, ap, sym, _∙_}
 use mathlib.Core.List.{List, [], _∷_, _++_, append-assoc}
 use native.Mathlib.Omega.{arith}
 use lib.IntN.{ℤ, pos, negsuc}
-use lib.ListN.{length, take, drop, length-append}
+use lib.ListN.{length, take, drop, length-append, take-append-drop}
 use lib.Seq.{take-at, drop-drop}
 use mir.Syntax.{w32}
 use mir.Val.{SFits}
@@ -21,10 +21,9 @@ use Rattle.profile.specs.declared.Kind.the-variants.{Gray, Rgb, Xyb}
 use Rattle.profile.specs.PlanLaws.{good-nines, slots-shape}
 use Rattle.profile.specs.Shape.{shape}
 use Rattle.profile.specs.declared.Shape.{Shape}
-use Rattle.profile.specs.Signatures as Sig
-use Rattle.profile.specs.TagTypes.{join, s15Fixed16s}
+use Rattle.profile.specs.TagTypes.{join}
 use Rattle.profile.specs.TagTypesLaws.{length-s15Fixed16s}
-use Rattle.profile.specs.Layout.{D50, Varying, class, space, front, header, varying, elements, slots, withId, profileId, layout}
+use Rattle.profile.specs.Layout.{Varying, class, space, front, headerFields, header, varying, elements, slots, withId, profileId, layout}
 use Rattle.profile.specs.LayoutLaws.{length-header, plan-fours, length-id, length-layout, layout-bounds, blanked-withId}
 use Rattle.profile.specs.declared.Curve.{Curve}
 use Rattle.profile.specs.declared.Curve.the-variants.{Named, Gamma}
@@ -38,7 +37,7 @@ use Rattle.reader_spec.specs.PlanInLaws.{elementOf, content-back, shape-
 
 -- numbers that their four bytes hold, and sixteen bytes of id
 pub record Fits (v : Varying) : Type 0 where
-  pub size : v .size < 2 ^ 32
+  pub size : FourBytes (v .size)
   pub maker : FourBytes (v .maker)
   pub model : FourBytes (v .model)
   pub intent : FourBytes (v .intent)
@@ -54,81 +53,61 @@ length-space Gray = refl
 length-space Rgb = refl
 length-space Xyb = refl
 
--- from place n on a list has the number x in four bytes, and then others
-record From (x n : ℕ) (l : List ℕ) : Type 0 where
-  rest : List ℕ
-  here : drop n l ≡ be32 x ++ rest
-
-from-word : (before after : List (List ℕ)) (x n : ℕ) (r : List ℕ) → length (join before) ≡ n → From x n (join (before ++ (be32 x ∷ after)) ++ r)
+-- a number in four bytes, in front of other fields
+word-first : (x : ℕ) (fs : List (List ℕ)) (r : List ℕ) → FourBytes x → word32 (join (be32 x ∷ fs) ++ r) ≡ x
 unfolding join
-from-word before after x n r l = record { rest = join after ++ r; here = from-part before (be32 x ∷ after) r n l ∙ append-assoc (be32 x) (join after) r }
-
-module _ (k : Kind) (v : Varying) where
-  abbrev afterIntent : List (List ℕ)
-  afterIntent = s15Fixed16s D50 ∷ Sig.jxl ∷ v .id ∷ zeros 28 ∷ []
-
-  abbrev afterModel : List (List ℕ)
-  afterModel = zeros 8 ∷ be32 (v .intent) ∷ afterIntent
-
-  from-maker : (r : List ℕ) → From (v .maker) 48 (header k v ++ r)
-  unfolding header join
-  from-maker r =
-      from-word (be32 (v .size) ∷ front k ∷ zeros 4 ∷ []) (be32 (v .model) ∷ afterModel) (v .maker) 48 r
-      (simp (length-append, length-be16, length-be32, length-class, length-space))
-
-  from-model : (r : List ℕ) → From (v .model) 52 (header k v ++ r)
-  unfolding header join
-  from-model r =
-      from-word (be32 (v .size) ∷ front k ∷ zeros 4 ∷ be32 (v .maker) ∷ []) afterModel (v .model) 52 r
-      (simp (length-append, length-be16, length-be32, length-class, length-space))
-
-  from-intent : (r : List ℕ) → From (v .intent) 64 (header k v ++ r)
-  unfolding header join
-  from-intent r =
-      from-word (be32 (v .size) ∷ front k ∷ zeros 4 ∷ be32 (v .maker) ∷ be32 (v .model) ∷ zeros 8 ∷ []) afterIntent (v .intent) 64 r
-      (simp (length-append, length-be16, length-be32, length-class, length-space))
-
-word-from : {x n : ℕ} {l : List ℕ} → From x n l → FourBytes x → word32 (drop n l) ≡ x
-word-from {x} f h = ap word32 (f .here) ∙ word32-be32 x (f .rest) h
+word-first x fs r h = ap word32 (append-assoc (be32 x) (join fs) r) ∙ word32-be32 x (join fs ++ r) h
 
 -- whatever number it is
-fits-from : {x n : ℕ} {l : List ℕ} → From x n l → FourBytes (word32 (drop n l))
-fits-from {x} f = rw (f .here) (word32-below x (f .rest))
+fits-first : (x : ℕ) (fs : List (List ℕ)) (r : List ℕ) → FourBytes (word32 (join (be32 x ∷ fs) ++ r))
+unfolding join
+fits-first x fs r = rw (append-assoc (be32 x) (join fs) r) (word32-below x (join fs ++ r))
 
-pub device-fits : (k : Kind) (v : Varying) (r : List ℕ) → FourBytes (word32 (drop 48 (header k v ++ r))) × FourBytes (word32 (drop 52 (header k v ++ r)))
-device-fits k v r = (fits-from (from-maker k v r), fits-from (from-model k v r))
+module _ (k : Kind) (v : Varying) (r : List ℕ) where
+  -- from its field i on, the first being 0, which stands at place n
+  from-field : (i n : ℕ) → length (join (take i (headerFields k v))) ≡ n → drop n (header k v ++ r) ≡ join (drop i (headerFields k v)) ++ r
+  unfolding header
+  from-field i n e =
+      ap (λ (fs : List (List ℕ)). drop n (join fs ++ r)) (sym (take-append-drop i (headerFields k v)))
+      ∙ from-part (take i (headerFields k v)) (drop i (headerFields k v)) r n e
 
--- and from the id on
-header-id : (k : Kind) (v : Varying) (r : List ℕ) → length (v .id) ≡ 16 → take 16 (drop 84 (header k v ++ r)) ≡ v .id
-unfolding header join
-header-id k v r h =
-    let before = be32 (v .size) ∷ front k ∷ zeros 4 ∷ be32 (v .maker) ∷ be32 (v .model) ∷ zeros 8 ∷ be32 (v .intent) ∷ s15Fixed16s D50 ∷ Sig.jxl ∷ [] in
-    let after = v .id ∷ zeros 28 ∷ [] in
-    rw (from-part before after r 84 (simp (length-append, length-be16, length-be32, length-class, length-space, length-s15Fixed16s)), append-assoc) (take-at (v .id) _ 16 h)
+  from-maker : drop 48 (header k v ++ r) ≡ join (drop 3 (headerFields k v)) ++ r
+  from-maker = from-field 3 48 (unfold join in simp (length-append, length-be16, length-be32, length-class, length-space))
 
-header-size : (k : Kind) (v : Varying) (r : List ℕ) → v .size < 2 ^ 32 → word32 (header k v ++ r) ≡ v .size
-unfolding header join
-header-size k v r h = rw (append-assoc (be32 (v .size))) (word32-be32 (v .size) _ h)
+  from-model : drop 52 (header k v ++ r) ≡ join (drop 4 (headerFields k v)) ++ r
+  from-model = from-field 4 52 (unfold join in simp (length-append, length-be16, length-be32, length-class, length-space))
 
-header-varying : (k : Kind) (v : Varying) (r : List ℕ) → Fits v → varyingOf (header k v ++ r) ≡ v
-unfolding varyingOf
-header-varying k v r h = λ i.
-    record {
-      size = header-size k v r (h .size) i;
-      maker = word-from (from-maker k v r) (h .maker) i;
-      model = word-from (from-model k v r) (h .model) i;
-      intent = word-from (from-intent k v r) (h .intent) i;
-      id = header-id k v r (h .id) i;
-    }
+  from-intent : drop 64 (header k v ++ r) ≡ join (drop 6 (headerFields k v)) ++ r
+  from-intent = from-field 6 64 (unfold join in simp (length-append, length-be16, length-be32, length-class, length-space))
+
+  from-id : drop 84 (header k v ++ r) ≡ join (drop 9 (headerFields k v)) ++ r
+  from-id = from-field 9 84 (unfold join in simp (length-append, length-be16, length-be32, length-class, length-space, length-s15Fixed16s))
+
+  header-id : length (v .id) ≡ 16 → take 16 (drop 84 (header k v ++ r)) ≡ v .id
+  unfolding join
+  header-id h = ap (take 16) (from-id ∙ append-assoc (v .id) (join (zeros 28 ∷ [])) r) ∙ take-at (v .id) _ 16 h
+
+  header-varying : Fits v → varyingOf (header k v ++ r) ≡ v
+  unfolding varyingOf header
+  header-varying h = λ i.
+      record {
+        size = word-first (v .size) (drop 1 (headerFields k v)) r (h .size) i;
+        maker = (ap word32 from-maker ∙ word-first (v .maker) (drop 4 (headerFields k v)) r (h .maker)) i;
+        model = (ap word32 from-model ∙ word-first (v .model) (drop 5 (headerFields k v)) r (h .model)) i;
+        intent = (ap word32 from-intent ∙ word-first (v .intent) (drop 7 (headerFields k v)) r (h .intent)) i;
+        id = header-id (h .id) i;
+      }
+
+  pub device-fits : FourBytes (word32 (drop 48 (header k v ++ r))) × FourBytes (word32 (drop 52 (header k v ++ r)))
+  device-fits = (rw from-maker (fits-first (v .maker) (drop 4 (headerFields k v)) r), rw from-model (fits-first (v .model) (drop 5 (headerFields k v)) r))
 
 -- class and space stand at bytes 8 and 12 of what follows the size; once the kind is known the front computes as far as these
 class-and-space : (k : Kind) (v : Varying) (r : List ℕ) → (take 4 (drop 12 (header k v ++ r)) ≡ class k) × (take 4 (drop 16 (header k v ++ r)) ≡ space k)
-unfolding header join
 class-and-space k v r =
-    let after = front k ∷ zeros 4 ∷ be32 (v .maker) ∷ be32 (v .model) ∷ zeros 8 ∷ be32 (v .intent) ∷ s15Fixed16s D50 ∷ Sig.jxl ∷ v .id ∷ zeros 28 ∷ [] in
-    let past : drop 4 (header k v ++ r) ≡ join after ++ r = from-part (be32 (v .size) ∷ []) after r 4 (simp (length-append, length-be32)) in (
-      ap (take 4) (sym (drop-drop 8 4 (header k v ++ r)) ∙ ap (drop 8) past) ∙ in-front k (drop 1 after) .0,
-      ap (take 4) (sym (drop-drop 12 4 (header k v ++ r)) ∙ ap (drop 12) past) ∙ in-front k (drop 1 after) .1,
+    let fields : List (List ℕ) = drop 2 (headerFields k v) in
+    let past : drop 4 (header k v ++ r) ≡ join (front k ∷ fields) ++ r = from-field k v r 1 4 (unfold join in simp (length-append, length-be32)) in (
+      ap (take 4) (sym (drop-drop 8 4 (header k v ++ r)) ∙ ap (drop 8) past) ∙ in-front k fields .0,
+      ap (take 4) (sym (drop-drop 12 4 (header k v ++ r)) ∙ ap (drop 12) past) ∙ in-front k fields .1,
     )
   where
     in-front : (k : Kind) (ps : List (List ℕ)) → (take 4 (drop 8 (join (front k ∷ ps) ++ r)) ≡ class k) × (take 4 (drop 12 (join (front k ∷ ps) ++ r)) ≡ space k)

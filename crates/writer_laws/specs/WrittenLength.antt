@@ -9,11 +9,20 @@ use Rattle.text.specs.Held.{HeldEncoding}
 use Rattle.profile.specs.Plan.{Plan, InRange}
 use Rattle.profile.specs.Shape.{minLength}
 use Rattle.profile.specs.Layout.{layout}
-use Rattle.profile.specs.LayoutLaws.{layout-bounds}
+use Rattle.profile.specs.LayoutLaws.{layout-bounds, length-device}
 use Rattle.encoding_plan.specs.PlanOf.{planOf}
+use Rattle.encoding_plan.specs.EncodingPlan.{encodingPlan}
+use Rattle.encoding_plan.specs.EncodingPlanLaws.{devised}
+use Rattle.encoding_plan.specs.declared.Encoding.{Encoding}
 use Rattle.writer.specs.Writer.{maxWritten}
 use Rattle.writer_laws.specs.PlanValid.{plan-valid}
 use Rattle.writer_laws.specs.WrittenLengthLaws.{at-most}
 
 pub written-length : (e : JxlColorEncoding) → HeldEncoding e → {p : Plan} → planOf e ≡ is p → (minLength ≤ length (layout p)) × (length (layout p) ≤ maxWritten)
 written-length e held {p} h = (layout-bounds InRange p (plan-valid e held h) .0, at-most e held h)
+
+-- with any maker and model
+pub encoding-written-length : (e : Encoding) → HeldEncoding (e .color) → {q : Plan} → encodingPlan e ≡ is q → (minLength ≤ length (layout q)) × (length (layout q) ≤ maxWritten)
+encoding-written-length e held h =
+    let d = devised e h in
+    rw (← d .device, length-device (d .plan) (e .maker) (e .model)) (written-length (e .color) held (d .color-plan))

@@ -1,9 +1,9 @@
 -- The number of what the writer answers, or 43 for a code without meaning. Assumes nothing.
 use mathlib.Core.Path.{refl}
-use Rattle.host.specs.HostLaws.{code-written}
+use Rattle.coded_writer.specs.CodedWriterLaws.{code-written}
 use borrow.Author.Needs.{needs}
-use Rattle.host.proofs.write.Statement.{statement}
-use Rattle.host.proofs.write.Tie as tie
+use Rattle.coded_writer.proofs.write.Statement.{statement}
+use Rattle.coded_writer.proofs.write.Tie as tie
 
 enum-known-code : tie.Need-enum-known-code
 enum-known-code c = search needs

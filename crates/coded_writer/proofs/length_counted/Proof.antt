@@ -1,9 +1,9 @@
 -- The number and the count of what the dry call answers, or 43 for a code without meaning. Assumes nothing.
 use mathlib.Core.Path.{refl}
-use Rattle.host.specs.HostLaws.{count-measured}
+use Rattle.coded_writer.specs.CodedWriterLaws.{count-measured}
 use borrow.Author.Needs.{needs}
-use Rattle.host.proofs.length_counted.Statement.{statement}
-use Rattle.host.proofs.length_counted.Tie as tie
+use Rattle.coded_writer.proofs.length_counted.Statement.{statement}
+use Rattle.coded_writer.proofs.length_counted.Tie as tie
 
 returns : tie.Need-returns
 returns c = rw (c .enum-told .given .1) (record { measures = record { told = λ k. refl; answer = refl }; rounded = refl })

@@ -1,8 +1,8 @@
 -- By the variants. Assumes nothing.
 use mathlib.Core.Path.{refl}
 use borrow.Author.Needs.{needs}
-use Rattle.host.proofs.answered.Statement.{statement}
-use Rattle.host.proofs.answered.Tie as tie
+use Rattle.coded_writer.proofs.answered.Statement.{statement}
+use Rattle.coded_writer.proofs.answered.Tie as tie
 
 returns : tie.Need-returns
 returns c = rw (c .before .profile .given .1) (refl, refl)

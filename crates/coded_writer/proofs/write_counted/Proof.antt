@@ -1,9 +1,9 @@
 -- The number and the count of what the writer answers, or 43 for a code without meaning. Assumes nothing.
 use mathlib.Core.Path.{refl}
-use Rattle.host.specs.HostLaws.{count-written}
+use Rattle.coded_writer.specs.CodedWriterLaws.{count-written}
 use borrow.Author.Needs.{needs}
-use Rattle.host.proofs.write_counted.Statement.{statement}
-use Rattle.host.proofs.write_counted.Tie as tie
+use Rattle.coded_writer.proofs.write_counted.Statement.{statement}
+use Rattle.coded_writer.proofs.write_counted.Tie as tie
 
 returns : tie.Need-returns
 returns c = rw (c .enum-told .given .1) (record { writes = record { writes = record { answer = refl; output = refl }; told = λ k. refl }; rounded = refl })

@@ -1,0 +1,2 @@
+pub mod CodedWriter
+pub mod CodedWriterLaws
