@@ -5,7 +5,6 @@ use app2::Output;
 use description_parser::Parsed;
 use job::JobAnswer;
 use job_output::JobProfile;
-ghost use mathlib.Core.Path.{_≡_};
 ghost use lib.ListN.{length};
 ghost use Rattle.color_encoding.specs.Codes.{whitePointFrom, primariesFrom, transferFunctionFrom, intentFrom};
 ghost use Rattle.color_encoding.specs.Codes.{grayFrom, rgbFrom, xybFrom};

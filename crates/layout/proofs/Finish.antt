@@ -19,7 +19,7 @@ use Rattle.profile.specs.Elements.{Slot, tagCount, table, start, body, bodySize
 use Rattle.profile.specs.ElementsLaws.{length-file}
 use Rattle.profile.specs.Plan.{Plan, kind, maxLetters}
 use Rattle.profile.specs.PlanLaws.{Nines, slots-shape, at-most}
-use Rattle.profile.specs.Layout.{blankHeader, elements, slots, withId, blanked, layout}
+use Rattle.profile.specs.Layout.{blankHeader, elements, withId, blanked, layout}
 use Rattle.profile.specs.LayoutLaws.{length-header, plan-fours, length-layout, blanked-withId, layout-last}
 use Rattle.profile.specs.Shape.{shape, slotsOf, maxLength}
 use Rattle.layout.specs.Begun.{Begun}

@@ -4,7 +4,7 @@
 use Prim.Native.Nat.{ℕ, _+_, _≤_}
 use mathlib.Core.Path.{_≡_, refl, ap, ap₂, sym, _∙_}
 use mathlib.Core.List.{List, [], _++_, append-assoc, append-nil}
-use lib.ListN.{length, length-append, take, drop}
+use lib.ListN.{length, length-append, drop}
 use lib.Seq.{take-at, drop-at, drop-drop}
 use lib.IntN.{ℤ}
 use Rattle.words.specs.Words.{be32}
@@ -14,7 +14,7 @@ use Rattle.buffer.specs.Buffer.{put}
 use Rattle.buffer.specs.BufferLaws.{put-over}
 use Rattle.md5.specs.Md5.{md5}
 use Rattle.md5.specs.Md5Laws.{length-md5}
-use Rattle.profile.specs.Elements.{headerSize, file, fileLength, start, tagCount, bodySize, padding}
+use Rattle.profile.specs.Elements.{headerSize, file, fileLength}
 use Rattle.profile.specs.ElementsLaws.{Fours, length-file}
 use Rattle.profile.specs.Plan.{Plan, withDevice, kind, Good}
 use Rattle.profile.specs.declared.Kind.{Kind}
