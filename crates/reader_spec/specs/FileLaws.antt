@@ -12,7 +12,6 @@ use Rattle.words.specs.Words.{be32, word32}
 use Rattle.words.specs.WordsLaws.{length-be16, length-be32, word32-be32, word32-below}
 use Rattle.buffer.specs.Bytes.{zeros, same}
 use Rattle.buffer.specs.All.{All, none, more}
-use Rattle.md5.specs.Md5.{md5}
 use Rattle.profile.specs.Elements.{start, tagCount, table, entries, body, file, fileLength}
 use Rattle.profile.specs.ElementsLaws.{Fours}
 use Rattle.profile.specs.Plan.{Plan, Content, gray, rgb, xyb, kind, FourBytes, GoodCurve, GoodContent, GoodIntent, Good, InRange, Valid, Wide}
@@ -24,7 +23,7 @@ use Rattle.profile.specs.declared.Shape.{Shape}
 use Rattle.profile.specs.TagTypes.{join}
 use Rattle.profile.specs.TagTypesLaws.{length-s15Fixed16s}
 use Rattle.profile.specs.Layout.{Varying, class, space, front, headerFields, header, varying, elements, slots, withId, profileId, layout}
-use Rattle.profile.specs.LayoutLaws.{length-header, plan-fours, length-id, length-layout, layout-bounds, blanked-withId}
+use Rattle.profile.specs.LayoutLaws.{length-header, plan-fours, length-id, length-layout, layout-bounds, any-id}
 use Rattle.profile.specs.declared.Curve.{Curve}
 use Rattle.profile.specs.declared.Curve.the-variants.{Named, Gamma}
 use Rattle.reader_spec.specs.JoinLaws.{from-part}
@@ -207,10 +206,8 @@ layout-injective p q g h e = sym (plan-in-layout p g) ∙ ap planIn e ∙ plan-i
 
 -- the id and the size in a plan's file are those of that file
 pub id-layout : (p : Plan) → Wide p → varyingOf (layout p) .id ≡ profileId (layout p)
-unfolding layout profileId
-id-layout p g =
-    ap (λ v. v .id) (varying-withId (SFits w32) p g _ (length-id _))
-    ∙ ap md5 (blanked-withId p (zeros 16) refl ∙ sym (blanked-withId p _ (length-id _)))
+unfolding layout
+id-layout p g = ap (λ v. v .id) (varying-withId (SFits w32) p g _ (length-id _)) ∙ any-id p (zeros 16) _ refl (length-id _)
 
 pub size-layout : (p : Plan) → Wide p → varyingOf (layout p) .size ≡ length (layout p)
 size-layout p g = size ∙ sym (length-slots (SFits w32) p g)

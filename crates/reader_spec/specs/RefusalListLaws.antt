@@ -11,15 +11,14 @@ use mir.Syntax.{w32}
 use mir.Val.{SFits}
 use Rattle.buffer.specs.All.{All, none, more}
 use Rattle.words.specs.Words.{word32}
-use Rattle.md5.specs.Md5.{md5}
 use Rattle.buffer.specs.FirstLaws.{first-unique, first-not-all}
 use Rattle.profile.specs.Elements.{lineStart, start, table, body, file, fileLength}
 use Rattle.profile.specs.ElementsLaws.{length-table, length-body}
 use Rattle.profile.specs.Plan.{Plan, kind, FourBytes, Good, Valid, Wide}
 use Rattle.profile.specs.declared.Kind.{Kind}
 use Rattle.buffer.specs.Bytes.{zeros}
-use Rattle.profile.specs.Layout.{header, varying, elements, slots, withId, blanked, profileId, layout}
-use Rattle.profile.specs.LayoutLaws.{length-id, layout-bounds, blanked-withId}
+use Rattle.profile.specs.Layout.{header, varying, elements, slots, withId, profileId, layout}
+use Rattle.profile.specs.LayoutLaws.{length-id, layout-bounds, any-id}
 use Rattle.reader_spec.specs.Table.{varyingOf, tagsOf, tableOf, bodyOf}
 use Rattle.reader_spec.specs.PlanIn.{planIn}
 use Rattle.reader_spec.specs.FileLaws.{device-fits, fours, header-128, length-slots, table-withId, body-withId, varying-withId, plan-in-withId, layout-injective, id-layout, size-layout, valid-wide}
@@ -88,11 +87,9 @@ module _ (f : List ℕ) (ok21 : RefusalList.Ok21 f) where
 
     -- and with the right id the file is its layout
     pub has-layout : RefusalList.Ok28 f → layout p ≡ f
-    unfolding layout profileId
+    unfolding layout
     has-layout ok28 =
-        let e : varyingOf f .id ≡ md5 (blanked (withId (zeros 16) p)) =
-        ok28 .id ∙ ap (λ x. md5 (blanked x)) has-withId ∙ ap md5 (blanked-withId p (varyingOf f .id) id-length ∙ sym (blanked-withId p (zeros 16) refl))
-        in
+        let e : varyingOf f .id ≡ profileId (withId (zeros 16) p) = ok28 .id ∙ ap profileId has-withId ∙ any-id p (varyingOf f .id) (zeros 16) id-length refl in
         rw (← e) (sym has-withId)
 
 -- ---- what a plan lays out to passes every check

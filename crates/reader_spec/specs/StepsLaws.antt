@@ -6,10 +6,9 @@ use native.Mathlib.Omega.{arith}
 use lib.ListN.{length}
 use Rattle.profile.specs.Plan.{Plan, GoodContent, GoodIntent, InRange, Wide}
 use Rattle.profile.specs.declared.Kind.{Kind}
-use Rattle.profile.specs.Layout.{profileId, layout, blanked}
-use Rattle.profile.specs.LayoutLaws.{length-id, blanked-withId}
+use Rattle.profile.specs.Layout.{profileId, layout}
+use Rattle.profile.specs.LayoutLaws.{length-id, any-id}
 use Rattle.profile.specs.declared.Shape.{Shape}
-use Rattle.md5.specs.Md5.{md5}
 use Rattle.reader_spec.specs.Table.{varyingOf}
 use Rattle.reader_spec.specs.PlanIn.{shapeIn, planIn}
 use Rattle.reader_spec.specs.FileLaws.{id-layout}
@@ -95,11 +94,11 @@ id-28 f h = failed _ _ _ h
 
 -- the id of a file that has a plan's regions is the one in the plan's layout
 pub laid-id : (k : Kind) (f : List ℕ) (p : Plan) → Headed k f → Wide p → RefusalList.Has p f → varyingOf (layout p) .id ≡ profileId f
-unfolding layout profileId
+unfolding layout
 laid-id k f p h w has =
     let ok21 : RefusalList.Ok21 f = record { long = h .sized .long } in
     let ok22 : RefusalList.Ok22 f = record { size = h .sized .size } in
-    id-layout p w ∙ ap md5 (blanked-withId p _ (length-id _) ∙ sym (blanked-withId p (varyingOf f .id) (id-length f ok21)) ∙ ap blanked (sym (has-withId f ok21 ok22 p w has)))
+    id-layout p w ∙ any-id p _ (varyingOf f .id) (length-id _) (id-length f ok21) ∙ ap profileId (sym (has-withId f ok21 ok22 p w has))
 
 -- what is accepted from 26 on is that plan
 pub accepted-plan : (f : List ℕ) → RefusalList.refusalNumber (fromBody f) ≡ 0 → fromBody f ≡ RefusalList.accepted (planIn f)
