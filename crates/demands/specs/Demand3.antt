@@ -12,7 +12,7 @@ use Rattle.profile.specs.Shape.{minLength, maxLength}
 use Rattle.profile.specs.Layout.{layout}
 use Rattle.encoding_plan.specs.FixedFloats.{fixedFloats}
 use Rattle.encoding_plan.specs.EncodingPlan.{encodingPlan}
-use Rattle.encoding_plan.specs.EncodingPlanLaws.{devised}
+use Rattle.encoding_plan.specs.EncodingPlanLaws.{from-color}
 use Rattle.encoding_plan.specs.declared.Encoding.{Encoding}
 use Rattle.writer.specs.Writer.{Creates}
 use Rattle.writer.specs.declared.Profile.the-variants.{Written}
@@ -91,7 +91,7 @@ pub written : (e : Encoding) (n : ℕ) {k : ℕ} (before after : List ℕ) → C
 written e n before after w =
     let p = front-of (fixedFloats (e .color)) (encodingPlan e) before after (w .writes .answer) (w .writes .output) in
     let valid : Valid (p .0) = encoding-plan-valid e (w .held) (w .maker) (w .model) (p .1) in
-    let device = devised e (p .1) .device in
+    let device = from-color e (p .1) .device in
     record {
       plan = p .0;
       its-plan = p .1;

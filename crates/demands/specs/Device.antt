@@ -12,7 +12,7 @@ use Rattle.profile.specs.Layout.{layout}
 use Rattle.profile.specs.LayoutLaws.{length-device, layout-device}
 use Rattle.encoding_plan.specs.PlanOf.{planOf}
 use Rattle.encoding_plan.specs.EncodingPlan.{encodingWith, plainEncoding, encodingPlan, countedEncodingPlan}
-use Rattle.encoding_plan.specs.EncodingPlanLaws.{plain-fields, plain-plan, devised}
+use Rattle.encoding_plan.specs.EncodingPlanLaws.{plain-fields, plain-plan, from-color}
 use Rattle.encoding_plan.specs.declared.Encoding.{Encoding}
 use Rattle.writer.specs.Writer.{answer, Creates}
 use Rattle.writer.specs.WriterLaws.{any-device}
@@ -42,7 +42,7 @@ pub record Differs (e : Encoding) (q : Plan) : Type 0 where
 
 pub differs : (e : Encoding) {q : Plan} → encodingPlan e ≡ is q → Differs e q
 differs e h =
-    let d = devised e h in
+    let d = from-color e h in
     let p = d .plan in
     let zeros = plain-fields (e .color) (d .color-plan) in
     rw (← d .device)

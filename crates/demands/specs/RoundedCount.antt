@@ -10,7 +10,7 @@ use Rattle.numbers.specs.Rounded.{roundedIn}
 use Rattle.color_encoding.specs.declared.JxlColorEncoding.{JxlColorEncoding}
 use Rattle.profile.specs.Plan.{Plan}
 use Rattle.encoding_plan.specs.EncodingPlan.{encodingPlan}
-use Rattle.encoding_plan.specs.EncodingPlanLaws.{devised}
+use Rattle.encoding_plan.specs.EncodingPlanLaws.{from-color}
 use Rattle.encoding_plan.specs.declared.Encoding.{Encoding}
 use Rattle.encoding_plan.specs.FixedFloats.{fixedFloats}
 use Rattle.writer.specs.Writer.{number, profileBy, countAfter, Creates}
@@ -33,7 +33,7 @@ pub record CountedIts (e : Encoding) (k : ℕ) : Type 0 where
 pub counted-its : (e : Encoding) {n k : ℕ} (before after : List ℕ) → Creates e before after (Written n k) → CountedIts e k
 counted-its e before after w =
     let c = count-of (fixedFloats (e .color)) (encodingPlan e) (length before) (w .writes .answer) in
-    let d = devised e (c .1) in
+    let d = from-color e (c .1) in
     record { plan = c .0; its-plan = c .1; rounded = c .2; most = rw (← d .device) (omega (arith, c .2, most-rounded (e .color) (d .color-plan))) }
 
 -- ---- from C: the calls that write and count ensure `WritesCounted`, the dry ones `MeasuresCounted`; the count was k at entry and is m at exit

@@ -20,6 +20,6 @@ plainEncoding c = encodingWith 0 0 c
 abbrev pub encodingPlan : Encoding → Checked Plan
 encodingPlan e = then (planOf (e .color)) (λ p. is (withDevice (e .maker) (e .model) p))
 
--- with the count of rounded numbers, on which maker and model have no bearing
+-- with the count of rounded numbers, which does not depend on maker and model
 abbrev pub countedEncodingPlan : Encoding → Checked (Counted Plan)
 countedEncodingPlan e = counted (fixedFloats (e .color)) (encodingPlan e)

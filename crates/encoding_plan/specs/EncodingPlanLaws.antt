@@ -57,13 +57,13 @@ plain-counted c = ap (counted (fixedFloats c)) (plain-plan c)
 -- ---- of another maker and model
 
 -- the plan of its color encoding, with these two
-pub record Devised (e : Encoding) (q : Plan) : Type 0 where
+pub record FromColor (e : Encoding) (q : Plan) : Type 0 where
   pub plan : Plan
   pub color-plan : planOf (e .color) ≡ is plan
   pub device : withDevice (e .maker) (e .model) plan ≡ q
 
-pub devised : (e : Encoding) {q : Plan} → encodingPlan e ≡ is q → Devised e q
-devised e h =
+pub from-color : (e : Encoding) {q : Plan} → encodingPlan e ≡ is q → FromColor e q
+from-color e h =
     let b = both (planOf (e .color)) _ h in
     record { plan = b .value; color-plan = b .first; device = cc (b .second) }
 

@@ -14,7 +14,7 @@ use Rattle.text.specs.Held.{HeldEncoding}
 use Rattle.profile.specs.Plan.{Plan, xyb, FourBytes, Valid}
 use Rattle.encoding_plan.specs.PlanOf.{planOf}
 use Rattle.encoding_plan.specs.EncodingPlan.{encodingPlan}
-use Rattle.encoding_plan.specs.EncodingPlanLaws.{devised}
+use Rattle.encoding_plan.specs.EncodingPlanLaws.{from-color}
 use Rattle.encoding_plan.specs.declared.Encoding.{Encoding}
 use Rattle.encoding_plan.specs.WhiteLaws.{white-in-range}
 use Rattle.writer_laws.specs.PlanLaws.{chad-nine, chad-within, columns-nine, columns-within, white-within, curve-good, cicp-good, text-good, gray-parts, rgb-parts}
@@ -65,6 +65,6 @@ plan-valid (XYB Absolute) held e = absurd (never e)
 -- with any maker and model of four bytes
 pub encoding-plan-valid : (e : Encoding) → HeldEncoding (e .color) → FourBytes (e .maker) → FourBytes (e .model) → {q : Plan} → encodingPlan e ≡ is q → Valid q
 encoding-plan-valid e held maker model h =
-    let d = devised e h in
+    let d = from-color e h in
     let v = plan-valid (e .color) held (d .color-plan) in
     rw (← d .device) (record { intent = v .intent; maker = maker; model = model; content = v .content })

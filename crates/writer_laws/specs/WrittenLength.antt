@@ -12,7 +12,7 @@ use Rattle.profile.specs.Layout.{layout}
 use Rattle.profile.specs.LayoutLaws.{layout-bounds, length-device}
 use Rattle.encoding_plan.specs.PlanOf.{planOf}
 use Rattle.encoding_plan.specs.EncodingPlan.{encodingPlan}
-use Rattle.encoding_plan.specs.EncodingPlanLaws.{devised}
+use Rattle.encoding_plan.specs.EncodingPlanLaws.{from-color}
 use Rattle.encoding_plan.specs.declared.Encoding.{Encoding}
 use Rattle.writer.specs.Writer.{maxWritten}
 use Rattle.writer_laws.specs.PlanValid.{plan-valid}
@@ -24,5 +24,5 @@ written-length e held {p} h = (layout-bounds InRange p (plan-valid e held h) .0,
 -- with any maker and model
 pub encoding-written-length : (e : Encoding) → HeldEncoding (e .color) → {q : Plan} → encodingPlan e ≡ is q → (minLength ≤ length (layout q)) × (length (layout q) ≤ maxWritten)
 encoding-written-length e held h =
-    let d = devised e h in
+    let d = from-color e h in
     rw (← d .device, length-device (d .plan) (e .maker) (e .model)) (written-length (e .color) held (d .color-plan))
