@@ -90,6 +90,15 @@ fn put_blank_front(laid: &mut [u8], file: &[u8], at: usize)
     buffer::put_zeros(laid, ID, ID_SIZE);
 }
 
+// Whether sixteen zero bytes stand in place of the id.
+pub fn id_is_zeros(file: &[u8]) -> bool
+    requires { ⌜ headerSize + countSize ≤ length (now file) ⌝ }
+    ensures { λ r. ⌜ r ≡ same (take idSize (drop idAt (now (file .entry)))) (zeros idSize) ⌝ }
+{
+    let zeros = [0u8; ID_SIZE];
+    buffer::same_bytes(&file[ID..ID_END], &zeros)
+}
+
 // A file compared with the layout of the one plan that it can have. Its header and its tag table are those of the plan, so only the rest is laid out.
 pub fn compared(file: &[u8], plan: Numbers, text: &[u8]) -> Comparison
     requires { ⌜ Candidate (now file) plan (now text) × (Tests.lettersAndCicpGood plan (now text) ≡ true) ⌝ }

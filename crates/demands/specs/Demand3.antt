@@ -4,19 +4,22 @@
 use Prim.Native.Nat.{ℕ, _≤_}
 use mathlib.Core.Path.{_≡_, sym, ap}
 use mathlib.Core.Logic.{_↔_}
+use mathlib.Core.Bool.{false}
 use mathlib.Core.List.{List}
 use lib.ListN.{length, take}
 use Rattle.buffer.specs.Checked.{is, refused}
-use Rattle.profile.specs.Plan.{Plan, Valid}
+use Rattle.profile.specs.Plan.{Plan}
 use Rattle.profile.specs.Shape.{minLength, maxLength}
 use Rattle.profile.specs.Layout.{layout}
 use Rattle.encoding_plan.specs.FixedFloats.{fixedFloats}
 use Rattle.encoding_plan.specs.EncodingPlan.{encodingPlan}
-use Rattle.encoding_plan.specs.EncodingPlanLaws.{from-color}
+use Rattle.encoding_plan.specs.EncodingPlanLaws.{from-color, never-marked}
 use Rattle.encoding_plan.specs.declared.Encoding.{Encoding}
 use Rattle.writer.specs.Writer.{Creates}
 use Rattle.writer.specs.declared.Profile.the-variants.{Written}
 use Rattle.writer_laws.specs.PlanValid.{encoding-plan-valid}
+use Rattle.reader_spec.specs.Exists.{Exists}
+use Rattle.reader_spec.specs.FileLaws.{computed-exists}
 use Rattle.reader_spec.specs.RefusalList.{Check, FirstFailing, checks, number}
 use Rattle.reader_spec.specs.Read.{read}
 use Rattle.reader_spec.specs.Owners.{Owned}
@@ -37,11 +40,11 @@ Reads f r = r ≡ reading (read f)
 
 module _ (f : List ℕ) (r : Reading) (h : Reads f r) where
   -- it accepts a file exactly when some plan lays out to those bytes, id included
-  pub accepts : (r .refusal ≡ 0) ↔ ((p : Plan) × Valid p × (layout p ≡ f))
+  pub accepts : (r .refusal ≡ 0) ↔ ((p : Plan) × Exists p × (layout p ≡ f))
   accepts = Laws.accepts f r h
 
   -- it answers that plan
-  pub answers : (p : Plan) → (told r ≡ is p) ↔ (Valid p × (layout p ≡ f))
+  pub answers : (p : Plan) → (told r ≡ is p) ↔ (Exists p × (layout p ≡ f))
   answers p = Laws.answers f r h p
 
   -- it refuses by the number of the first check of 01's list that the file does not pass
@@ -53,7 +56,7 @@ module _ (f : List ℕ) (r : Reading) (h : Reads f r) where
   owned e = Laws.owned f r h e
 
 -- no other plan lays out to the same bytes
-pub one-plan : (p q : Plan) → Valid p → Valid q → layout p ≡ layout q → p ≡ q
+pub one-plan : (p q : Plan) → Exists p → Exists q → layout p ≡ layout q → p ≡ q
 one-plan p q v w e = Accepts.one-plan p q v w e
 
 -- ---- the reader from C
@@ -64,11 +67,11 @@ ReadsInC f before after r = ReadsPlan (reading (read f)) before after r
 
 module _ (f before after : List ℕ) (r : ℕ) (h : ReadsInC f before after r) where
   -- it answers 0 exactly when some plan lays out to the file and the record has room for the struct
-  pub accepts-in-c : (r ≡ 0) ↔ (((p : Plan) × Valid p × (layout p ≡ f)) × (recordSize ≤ length before))
+  pub accepts-in-c : (r ≡ 0) ↔ (((p : Plan) × Exists p × (layout p ≡ f)) × (recordSize ≤ length before))
   accepts-in-c = Laws.accepts-in-c f before after r h
 
   -- then the bytes of the record tell that plan, as the reader's struct does
-  pub answers-in-c : r ≡ 0 → (p : Plan) → (told (readingBy after) ≡ is p) ↔ (Valid p × (layout p ≡ f))
+  pub answers-in-c : r ≡ 0 → (p : Plan) → (told (readingBy after) ≡ is p) ↔ (Exists p × (layout p ≡ f))
   answers-in-c zero p = Laws.answers f (readingBy after) (Laws.stored f before after r h zero) p
 
   -- it answers the number of the first check of 01's list that the file does not pass, however long the record is
@@ -77,12 +80,14 @@ module _ (f before after : List ℕ) (r : ℕ) (h : ReadsInC f before after r) w
 
 -- ---- the writer
 
--- the first n bytes of an output are the encoding's plan laid out, which has its maker and model, and the reader answers that plan to them
+-- the first n bytes of an output are the encoding's plan laid out, which has its maker and model and never the mark "id not computed", and the reader
+-- answers that plan to them
 pub record WroteItsPlan (e : Encoding) (n : ℕ) (after : List ℕ) : Type 0 where
   pub plan : Plan
   pub its-plan : encodingPlan e ≡ is plan
   pub its-device : (plan .maker ≡ e .maker) × (plan .model ≡ e .model)
-  pub valid : Valid plan
+  pub computed : plan .id-not-computed ≡ false
+  pub exists : Exists plan
   pub laid-out : take n after ≡ layout plan
   pub read-back : (r : Reading) → Reads (take n after) r → told r ≡ is plan
 
@@ -90,13 +95,15 @@ pub record WroteItsPlan (e : Encoding) (n : ℕ) (after : List ℕ) : Type 0 whe
 pub written : (e : Encoding) (n : ℕ) {k : ℕ} (before after : List ℕ) → Creates e before after (Written n k) → WroteItsPlan e n after
 written e n before after w =
     let p = front-of (fixedFloats (e .color)) (encodingPlan e) before after (w .writes .answer) (w .writes .output) in
-    let valid : Valid (p .0) = encoding-plan-valid e (w .held) (w .maker) (w .model) (p .1) in
+    let computed = never-marked e (p .1) in
+    let exists : Exists (p .0) = computed-exists (p .0) computed (encoding-plan-valid e (w .held) (w .maker) (w .model) (p .1)) in
     let device = from-color e (p .1) .device in
     record {
       plan = p .0;
       its-plan = p .1;
       its-device = (ap (λ (q : Plan). q .maker) (sym device), ap (λ (q : Plan). q .model) (sym device));
-      valid = valid;
+      computed = computed;
+      exists = exists;
       laid-out = p .2;
-      read-back = λ r h. answers (take n after) r h (p .0) .1 (valid, sym (p .2));
+      read-back = λ r h. answers (take n after) r h (p .0) .1 (exists, sym (p .2));
     }

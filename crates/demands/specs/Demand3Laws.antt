@@ -14,12 +14,13 @@ use Rattle.buffer.specs.Buffer.{put}
 use Rattle.buffer.specs.BufferLaws.{put-after, take-put}
 use Rattle.buffer.specs.Checked.{Checked, is, refused as refusedBy}
 use Rattle.buffer.specs.CheckedLaws.{never}
-use Rattle.profile.specs.Plan.{Plan, Valid}
+use Rattle.profile.specs.Plan.{Plan}
 use Rattle.profile.specs.Shape.{minLength, maxLength}
 use Rattle.profile.specs.Layout.{layout}
 use Rattle.numbers.specs.Rounded.{roundedIn, counted}
 use Rattle.writer.specs.Writer.{answer, output, tooShort}
 use Rattle.writer.specs.declared.Profile.the-variants.{Written, Refused}
+use Rattle.reader_spec.specs.Exists.{Exists}
 use Rattle.reader_spec.specs.RefusalList.{Answer, Answers, Check, FirstFailing, checks, refused, accepted, refuses as by-list, number}
 use Rattle.reader_spec.specs.RefusalListLaws.{number-bounds}
 use Rattle.reader_spec.specs.Read.{read}
@@ -51,7 +52,7 @@ first-if (by-list h) = h
 
 module _ (f : List ℕ) (r : Reading) (h : r ≡ reading (read f)) where
   told-plan : (p : Plan) → read f ≡ accepted p → told r ≡ is p
-  told-plan p e = ap told (h ∙ ap reading e) ∙ plan-told p (accepts-exactly f p .0 e .0)
+  told-plan p e = ap told (h ∙ ap reading e) ∙ plan-told p (accepts-exactly f p .0 e .0 .valid)
 
   told-refusal : (c : Check) → read f ≡ refused c → told r ≡ refusedBy (number c)
   told-refusal c e = ap told (h ∙ ap reading e) ∙ refusal-told c
@@ -67,16 +68,16 @@ module _ (f : List ℕ) (r : Reading) (h : r ≡ reading (read f)) where
       go (accepted p) e = (p, e)
       go (refused c) e = absurd (omega (arith, number-bounds c .0, refusal-is (refused c) e, zero))
 
-  pub accepts : (r .refusal ≡ 0) ↔ ((p : Plan) × Valid p × (layout p ≡ f))
+  pub accepts : (r .refusal ≡ 0) ↔ ((p : Plan) × Exists p × (layout p ≡ f))
   accepts = (
     λ zero. let q = plan-if zero in let v = accepts-exactly f (q .0) .0 (q .1) in (q .0, v .0, v .1),
     λ s. refusal-is (accepted (s .0)) (accepts-exactly f (s .0) .1 (s .1, s .2)),
   )
 
-  pub answers : (p : Plan) → (told r ≡ is p) ↔ (Valid p × (layout p ≡ f))
+  pub answers : (p : Plan) → (told r ≡ is p) ↔ (Exists p × (layout p ≡ f))
   answers p = (λ t. go t (read f) refl, λ s. told-plan p (accepts-exactly f p .1 s))
     where
-      go : told r ≡ is p → (a : Answer) → read f ≡ a → Valid p × (layout p ≡ f)
+      go : told r ≡ is p → (a : Answer) → read f ≡ a → Exists p × (layout p ≡ f)
       go t (accepted q) e = let same : q ≡ p = same-plan (sym (told-plan q e) ∙ t) in accepts-exactly f p .0 (e ∙ ap accepted same)
       go t (refused c) e = absurd (never (sym (told-refusal c e) ∙ t))
 
@@ -132,10 +133,10 @@ module _ (f before after : List ℕ) (r : ℕ) (h : ReadsPlan (reading (read f))
       (in-record (reading (read f)) before (sym zero ∙ h .answer) (h .plan)
       ∙ ap (λ (a : Answer). put before 0 (planRecord (reading a))) e
       ∙ put-after [] before bytes 0 refl)
-      ∙ record-told p (accepts-exactly f p .0 e .0) (drop (length bytes) before)
+      ∙ record-told p (accepts-exactly f p .0 e .0 .valid) (drop (length bytes) before)
       ∙ sym (ap reading e)
 
-  pub accepts-in-c : (r ≡ 0) ↔ (((p : Plan) × Valid p × (layout p ≡ f)) × (recordSize ≤ length before))
+  pub accepts-in-c : (r ≡ 0) ↔ (((p : Plan) × Exists p × (layout p ≡ f)) × (recordSize ≤ length before))
   accepts-in-c = (
     λ zero. let q = plan-and-room zero in let v = accepts-exactly f (q .0 .0) .0 (q .0 .1) in ((q .0 .0, v .0, v .1), q .1),
     λ s. answered (accepted (s .0 .0)) (accepts-exactly f (s .0 .0) .1 (s .0 .1, s .0 .2)) ∙ rw (le-leb recordSize (length before) (s .1)),

@@ -3,13 +3,14 @@
 -- Assumes nothing.
 use Prim.Native.Nat.{ℕ}
 use mathlib.Core.Path.{_≡_, sym, _∙_}
+use mathlib.Core.Bool.{false}
 use mathlib.Core.List.{List}
 use lib.ListN.{length, take, getD}
 use Rattle.buffer.specs.Checked.{is}
 use Rattle.color_encoding.specs.declared.JxlColorEncoding.{JxlColorEncoding}
 use Rattle.profile.specs.Plan.{Plan}
 use Rattle.profile.specs.Layout.{layout}
-use Rattle.profile.specs.LayoutLaws.{length-device, layout-device}
+use Rattle.profile.specs.LayoutLaws.{length-device}
 use Rattle.encoding_plan.specs.PlanOf.{planOf}
 use Rattle.encoding_plan.specs.EncodingPlan.{encodingWith, plainEncoding, encodingPlan, countedEncodingPlan}
 use Rattle.encoding_plan.specs.EncodingPlanLaws.{plain-fields, plain-plan, from-color}
@@ -23,8 +24,9 @@ use Rattle.demands.specs.Demand3.{written}
 
 -- ---- zeros
 
-pub zeros-old : (p : Plan) → p .maker ≡ 0 → p .model ≡ 0 → layout p ≡ oldLayout p
-zeros-old p a b = Laws.zeros-old p a b
+-- of a plan whose id is computed, as that of an encoding is
+pub zeros-old : (p : Plan) → p .id-not-computed ≡ false → p .maker ≡ 0 → p .model ≡ 0 → layout p ≡ oldLayout p
+zeros-old p m a b = Laws.zeros-old p m a b
 
 -- the plan of a job's entry and of a typed text is that of its color encoding, with zeros
 pub plain-zeros : (c : JxlColorEncoding) → encodingPlan (plainEncoding c) ≡ planOf c
@@ -44,15 +46,15 @@ pub differs : (e : Encoding) {q : Plan} → encodingPlan e ≡ is q → Differs 
 differs e h =
     let d = from-color e h in
     let p = d .plan in
-    let zeros = plain-fields (e .color) (d .color-plan) in
+    let (maker, model, mark) = plain-fields (e .color) (d .color-plan) in
     rw (← d .device)
     (record {
       plan = p;
       color-plan = d .color-plan;
-      old = zeros-old p (zeros .0) (zeros .1);
-      new = layout-device p (e .maker) (e .model);
+      old = zeros-old p mark maker model;
+      new = Laws.new p mark (e .maker) (e .model);
       same-length = length-device p (e .maker) (e .model);
-      elsewhere = Laws.elsewhere p (e .maker) (e .model);
+      elsewhere = Laws.elsewhere p mark (e .maker) (e .model);
     })
 
 -- the length, the count of rounded numbers and the refusal, on an output of n bytes

@@ -1,6 +1,7 @@
 -- Laws of maker and model in a file. Assumes nothing.
 use Prim.Native.Nat.{ℕ, _+_, _-_, _≤_, _<_}
-use mathlib.Core.Path.{_≡_, sym, ap, ap₂, _∙_}
+use mathlib.Core.Path.{_≡_, sym, ap, ap₂, _∙_, subst}
+use mathlib.Core.Bool.{false}
 use mathlib.Core.Logic.{_⊎_, inl, inr}
 use mathlib.Core.List.{List, _++_, append-assoc}
 use native.Mathlib.Omega.{arith}
@@ -14,9 +15,10 @@ use Rattle.buffer.specs.Bytes.{zeros}
 use Rattle.profile.specs.Elements.{file}
 use Rattle.profile.specs.Plan.{Plan, withDevice}
 use Rattle.profile.specs.TagTypes.{join}
-use Rattle.profile.specs.Layout.{header, withId, profileId, layout}
-use Rattle.profile.specs.LayoutLaws.{length-header, length-id, layout-device}
-use Rattle.demands.specs.OldFiles.{oldWithId, oldLayout, Elsewhere}
+use Rattle.profile.specs.PlanLaws.{unmarked}
+use Rattle.profile.specs.Layout.{header, withId, profileId, computedId, layout}
+use Rattle.profile.specs.LayoutLaws.{length-header, length-id, length-idFor, layout-computed, layout-device}
+use Rattle.demands.specs.OldFiles.{oldWithId, oldLayout, patched, Elsewhere}
 
 -- ---- zeros
 
@@ -24,9 +26,10 @@ old-under : (id : List ℕ) (p : Plan) → p .maker ≡ 0 → p .model ≡ 0 →
 unfolding withId oldWithId header join
 old-under id p a b = rw (a, b, be32-zero)
 
-pub zeros-old : (p : Plan) → p .maker ≡ 0 → p .model ≡ 0 → layout p ≡ oldLayout p
-unfolding layout oldLayout
-zeros-old p a b = ap (λ f. withId (profileId f) p) (old-under (zeros 16) p a b) ∙ old-under _ p a b
+pub zeros-old : (p : Plan) → p .id-not-computed ≡ false → p .maker ≡ 0 → p .model ≡ 0 → layout p ≡ oldLayout p
+unfolding computedId oldLayout
+zeros-old p m a b =
+    ap layout (sym (unmarked p m)) ∙ layout-computed p ∙ ap (λ f. withId (profileId f) p) (old-under (zeros 16) p a b) ∙ old-under _ p a b
 
 -- ---- a byte outside of those that are put
 
@@ -47,9 +50,12 @@ outside l i q j room (inr h) =
 
 at-least-100 : (p : Plan) → 100 ≤ length (layout p)
 unfolding layout withId file
-at-least-100 p = simp (length-append, length-header, length-id) (omega arith)
+at-least-100 p = simp (length-append, length-header, length-idFor) (omega arith)
 
-module _ (p : Plan) (a b : ℕ) where
+module _ (p : Plan) (m : p .id-not-computed ≡ false) (a b : ℕ) where
+  pub new : layout (withDevice a b p) ≡ patched a b (layout p)
+  new = subst (λ q. layout (withDevice a b q) ≡ patched a b (layout q)) (unmarked p m) (layout-device p a b)
+
   abbrev device : List ℕ
   device = be32 a ++ be32 b
 
@@ -64,7 +70,7 @@ module _ (p : Plan) (a b : ℕ) where
 
   pub elsewhere : (i : ℕ) → Elsewhere i → getD (layout (withDevice a b p)) i 0 ≡ getD (layout p) i 0
   elsewhere i h =
-      ap (λ (l : List ℕ). getD l i 0) (layout-device p a b)
+      ap (λ (l : List ℕ). getD l i 0) new
       ∙ outside put-device 84 (profileId put-device) i (omega (arith, long, length-id put-device, at-least-100 p)) (past-id h)
       ∙ outside (layout p) 48 device i (omega (arith, eight, at-least-100 p)) (past-device h)
     where

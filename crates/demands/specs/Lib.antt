@@ -14,3 +14,5 @@ pub mod RoundedCount
 pub mod OldFiles
 pub mod DeviceLaws
 pub mod Device
+pub mod NotComputedLaws
+pub mod NotComputed

@@ -5,7 +5,7 @@ use lib.Dec.{eqb}
 use lib.IntN.{ℤ}
 use lib.ListN.{take}
 use Rattle.buffer.specs.Checked.{Checked, is, refused}
-use Rattle.profile.specs.Plan.{Plan}
+use Rattle.profile.specs.Plan.{Plan, withMark}
 use Rattle.profile.specs.Numbers.{planOf}
 use Rattle.profile.specs.declared.Numbers.{Numbers}
 use Rattle.profile.specs.declared.Kind.{Kind}
@@ -45,9 +45,9 @@ numbersIn r =
       columns = r .columns;
     }
 
--- the numbers, and as many letters of the text as there are
+-- the numbers, and as many letters of the text as there are; and the mark
 abbrev pub planIn : Reading → Plan
-planIn r = planOf (numbersIn r) (take (r .letters) (r .text))
+planIn r = withMark (eqb (r .«id_not_computed») 1) (planOf (numbersIn r) (take (r .letters) (r .text)))
 
 abbrev pub told : Reading → Checked Plan
 told r = cond (eqb (r .refusal) 0) (is (planIn r)) (refused (r .refusal))

@@ -2,13 +2,13 @@
 use Prim.Native.Nat.{ℕ, _-_}
 use mathlib.Core.Path.{_≡_, refl, ap, ap₂, _∙_}
 use mathlib.Core.Logic.{inl, inr}
-use mathlib.Core.Bool.{cond}
+use mathlib.Core.Bool.{Bool, true, false, cond}
 use mathlib.Core.List.{List}
 use lib.Dec.{eqb}
-use lib.ListN.{length, replicate}
+use lib.ListN.{length, take, replicate}
 use lib.Seq.{take-at}
 use Rattle.buffer.specs.Checked.{is, refused as refusedBy}
-use Rattle.profile.specs.Plan.{Plan, Content, gray, rgb, xyb, GoodCicp, GoodContent, InRange, Valid, maxLetters}
+use Rattle.profile.specs.Plan.{Plan, withMark, Content, gray, rgb, xyb, GoodCicp, GoodContent, InRange, Valid, maxLetters}
 use Rattle.profile.specs.Numbers.{planOf, numbersFor, numbersOf, textOf}
 use Rattle.profile.specs.PlanLaws.{plan-of-numbers}
 use Rattle.profile.specs.declared.Numbers.{Numbers}
@@ -20,7 +20,7 @@ use Rattle.profile.specs.declared.Curve.{Curve}
 use Rattle.profile.specs.declared.Curve.the-variants.{Named, Gamma}
 use Rattle.profile.specs.declared.Cicp.{Cicp}
 use Rattle.profile.specs.declared.Cicp.the-variants.{Absent, Primaries}
-use Rattle.reader_spec.specs.RefusalList.{Check, c21, c22, c23, c24, c25, c26, c27, c28, refused, accepted, number}
+use Rattle.reader_spec.specs.RefusalList.{Check, c21, c22, c23, c24, c25, c26, c27, c28, refused, accepted, number, markNumber}
 use Rattle.reading.specs.Reading.{kindNumber, nameNumber, curveNumber, gammaNumber, cicpNumber, textArray, acceptedWith, reading}
 use Rattle.demands.specs.Told.{kindBy, curveBy, cicpBy, numbersIn, told}
 
@@ -53,14 +53,21 @@ pair-good i (gray g) h = tt
 pair-good i (rgb g) h = h .cicp
 pair-good i xyb h = tt
 
-numbers-back : (n : Numbers) (k : ℕ) (t : List ℕ) → GoodCicp (n .curve) (n .cicp) → numbersIn (acceptedWith n k t) ≡ n
-numbers-back n k t h = rw (kind-back (n .kind), curve-back (n .curve), cicp-back (n .curve) (n .cicp) h) refl
+numbers-back : (n : Numbers) (m k : ℕ) (t : List ℕ) → GoodCicp (n .curve) (n .cicp) → numbersIn (acceptedWith n m k t) ≡ n
+numbers-back n m k t h = rw (kind-back (n .kind), curve-back (n .curve), cicp-back (n .curve) (n .cicp) h) refl
+
+mark-back : (m : Bool) → eqb (cond m 1 0) 1 ≡ m
+mark-back true = refl
+mark-back false = refl
 
 pub plan-told : (p : Plan) → Valid p → told (reading (accepted p)) ≡ is p
 plan-told p v =
     let t = textOf p in
-    ap is (ap₂ planOf (numbers-back (numbersOf p) (length t) (textArray t) (pair-good (p .intent) (p .content) (v .content)))
-    (take-at t (replicate (maxLetters - length t) 0) (length t) refl) ∙ plan-of-numbers p)
+    let unmarked : planOf (numbersIn (reading (accepted p))) (take (length t) (textArray t)) ≡ withMark false p =
+    ap₂ planOf (numbers-back (numbersOf p) (markNumber (accepted p)) (length t) (textArray t) (pair-good (p .intent) (p .content) (v .content)))
+    (take-at t (replicate (maxLetters - length t) 0) (length t) refl) ∙ plan-of-numbers p
+    in
+    ap is (ap₂ withMark (mark-back (p .id-not-computed)) unmarked)
 
 -- ---- the refusals
 

@@ -1,5 +1,5 @@
 -- The plan of a color encoding, or the first of refusals 1 to 8 (01, "Words of demand 3" and the refusal list). Its maker and model are zero: EncodingPlan
--- has the plan of an encoding with these two. Assumes nothing.
+-- has the plan of an encoding with these two. It never has the mark "id not computed" (02, order 7). Assumes nothing.
 use mathlib.Core.List.{List}
 use lib.IntN.{ℤ}
 use Rattle.color_encoding.specs.Intent.{intentNumber}
@@ -9,7 +9,7 @@ use Rattle.color_encoding.specs.declared.RenderingIntent.the-variants.{Perceptu
 use Rattle.color_encoding.specs.declared.JxlColorEncoding.{JxlColorEncoding}
 use Rattle.color_encoding.specs.declared.JxlColorEncoding.the-variants.{RgbColorSpace, GrayscaleColorSpace, XYB}
 use Rattle.text.specs.Description.{description}
-use Rattle.profile.specs.Plan.{Plan, gray, rgb, xyb}
+use Rattle.profile.specs.Plan.{Plan, gray, rgb, xyb, plainPlan}
 use Rattle.profile.specs.declared.Curve.{Curve}
 use Rattle.profile.specs.declared.Cicp.{Cicp}
 use Rattle.buffer.specs.Checked.{Checked, is, refused, then}
@@ -20,15 +20,15 @@ pub use Rattle.encoding_numbers.specs.NumbersOf.{grayNumbers, chadNumbers, colu
 
 abbrev pub grayPlan : JxlColorEncoding → RenderingIntent → Curve → ℤ × ℤ → Plan
 grayPlan e i c xz =
-    record { intent = intentNumber i; maker = 0; model = 0; content = gray (record { text = description e; curve = c; white-x = xz .0; white-z = xz .1 }) }
+    plainPlan (intentNumber i) (gray (record { text = description e; curve = c; white-x = xz .0; white-z = xz .1 }))
 
 abbrev pub rgbPlan : JxlColorEncoding → RenderingIntent → Curve → Cicp → List ℤ → List ℤ → Plan
 rgbPlan e i c v m k =
-    record { intent = intentNumber i; maker = 0; model = 0; content = rgb (record { text = description e; curve = c; chad = m; columns = k; cicp = v }) }
+    plainPlan (intentNumber i) (rgb (record { text = description e; curve = c; chad = m; columns = k; cicp = v }))
 
 -- 2: XYB has an intent other than Perceptual
 abbrev xybPlan : RenderingIntent → Checked Plan
-xybPlan Perceptual = is (record { intent = intentNumber Perceptual; maker = 0; model = 0; content = xyb })
+xybPlan Perceptual = is (plainPlan (intentNumber Perceptual) xyb)
 xybPlan Relative = refused 2
 xybPlan Saturation = refused 2
 xybPlan Absolute = refused 2

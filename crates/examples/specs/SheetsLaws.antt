@@ -33,7 +33,7 @@ use Rattle.adaptation.specs.Adapt.{hasZero, allFinite, lms, gains, adaptable, a
 use Rattle.colorimetry.specs.Primaries.{primariesMatrix, scaledPrimaries, primariesToXyz, primariesToXyzD50, createIccRgbMatrix}
 use Rattle.text.specs.Description.{whiteName, primariesName, transferName, rgbText, grayText, rgbDescription, description}
 use Rattle.profile.specs.Elements.{fileLength, start, bodySize, tagCount, padding}
-use Rattle.profile.specs.Plan.{Plan, gray, rgb, xyb}
+use Rattle.profile.specs.Plan.{Plan, gray, rgb, xyb, plainPlan}
 use Rattle.profile.specs.Shape.{slotsOf}
 use Rattle.profile.specs.Layout.{layout}
 use Rattle.profile.specs.LayoutLaws.{length-layout}
@@ -118,7 +118,7 @@ exact e p n k h l c = ap (λ (q : Checked Plan). answer (counted (fixedFloats e)
 
 abbrev pub srgbPlan : ℕ → List ℕ → Plan
 srgbPlan i t =
-    record { intent = i; maker = 0; model = 0; content = rgb (record { text = t; curve = Named Name.SRGB; chad = chadD65; columns = columnsSrgb; cicp = Primaries 1 }) }
+    plainPlan i (rgb (record { text = t; curve = Named Name.SRGB; chad = chadD65; columns = columnsSrgb; cicp = Primaries 1 }))
 
 pub perceptual-plan : planOf (srgb Perceptual) ≡ is (srgbPlan 0 (ascii "sRGB"))
 unfolding planOf description rgbDescription chadMatrix adaptToXyzD50 adaptationMatrix adaptable inRange finite finiteXyz whiteXyz hasZero allFinite lms gains narrowed createIccRgbMatrix primariesToXyzD50 primariesToXyz primariesMatrix scaledPrimaries singular inverse adjugate determinant cofactors cofactor minor abs applied product dot narrow s15Fixed16 ofBits neg eq lt le add sub mul div
@@ -143,7 +143,7 @@ relative-536 = exact _ _ 536 24 relative-plan (length-layout (srgbPlan 1 (ascii 
 
 abbrev grayD65 : Plan
 grayD65 =
-    record { intent = 1; maker = 0; model = 0; content = gray (record { text = ascii "Gra_D65_Rel_SRG"; curve = Named Name.SRGB; white-x = pos 62289; white-z = pos 71372 }) }
+    plainPlan 1 (gray (record { text = ascii "Gra_D65_Rel_SRG"; curve = Named Name.SRGB; white-x = pos 62289; white-z = pos 71372 }))
 
 pub gray-plan : planOf (GrayscaleColorSpace W.D65 F.SRGB Relative) ≡ is grayD65
 unfolding planOf description grayText whiteName transferName cieXyzFromWhiteCieXy abs s15Fixed16 ofBits neg eq lt le add sub mul div
@@ -159,7 +159,7 @@ unfolding slotsOf fileLength start bodySize tagCount padding
 gray-328 = exact _ _ 328 7 gray-plan (length-layout grayD65 tt) gray-count
 
 abbrev xybPlan : Plan
-xybPlan = record { intent = 0; maker = 0; model = 0; content = xyb }
+xybPlan = plainPlan 0 xyb
 
 pub xyb-720 : answer (countedPlan (XYB Perceptual)) 720 ≡ Written 720 30
 unfolding planOf slotsOf fileLength start bodySize tagCount padding

@@ -1,6 +1,7 @@
 -- The layout from header, tag table, elements, and then the intent and the id. Assumes nothing.
 use Prim.Native.Nat.{ℕ, _+_, _*_, _≤_}
 use mathlib.Core.Path.{_≡_, refl, ap, ap₂, sym, _∙_}
+use mathlib.Core.Bool.{false}
 use mathlib.Core.List.{List, _++_, append-assoc}
 use native.Mathlib.Nat.{zero-add}
 use native.Mathlib.Omega.{arith}
@@ -17,7 +18,7 @@ use Rattle.md5.specs.Md5.{md5}
 use Rattle.md5.specs.Md5Laws.{length-md5}
 use Rattle.profile.specs.Elements.{Slot, tagCount, table, start, body, bodySize, file, fileLength}
 use Rattle.profile.specs.ElementsLaws.{length-file}
-use Rattle.profile.specs.Plan.{Plan, kind, maxLetters}
+use Rattle.profile.specs.Plan.{Plan, withMark, kind, maxLetters}
 use Rattle.profile.specs.PlanLaws.{Nines, slots-shape, at-most}
 use Rattle.profile.specs.Layout.{blankHeader, elements, withId, blanked, layout}
 use Rattle.profile.specs.LayoutLaws.{length-header, plan-fours, length-layout, blanked-withId, layout-last}
@@ -82,9 +83,10 @@ begun p l {a} {b} {n} {s} f hn ha hb =
       both .bytes,
     )
 
--- the elements behind them, and then the intent and the id
+-- the elements behind them, and then the intent and the id: the code computes it, so the plan has no mark
 pub finished : (p : Plan) → Nines (p .content) → (l : List ℕ) {d out : List ℕ} {at n k r : ℕ} → Begun p l at n
-    → Puts l at k (body (elements p)) r d → out ≡ put (put d 64 (be32 (p .intent))) 84 (md5 (take n d)) → out ≡ put l 0 (layout p)
+    → Puts l at k (body (elements p)) r d → out ≡ put (put d 64 (be32 (p .intent))) 84 (md5 (take n d))
+    → out ≡ put l 0 (layout (withMark false p))
 unfolding fileLength
 finished p h l {d} {out} {at} {n} b hd ho =
     let f : List ℕ = blanked (withId (zeros 16) p) in

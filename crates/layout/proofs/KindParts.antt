@@ -12,7 +12,7 @@ use Rattle.xyb_constants.specs.XybNumbers as XybNumbers
 use Rattle.profile.specs.Elements.{padding, padded, paddedSize, body, bodySize}
 use Rattle.profile.specs.ElementsLaws.{length-body, body-append}
 use Rattle.profile.specs.Layout.{tag, D50, xybText, firstElements, cicpElement, colorElements, elementsFor, elements}
-use Rattle.profile.specs.Plan.{Content, GrayContent, RgbContent, gray, rgb, xyb}
+use Rattle.profile.specs.Plan.{Content, GrayContent, RgbContent, gray, rgb, xyb, plainPlan}
 use Rattle.profile.specs.PlanLaws.{Nines, slots-shape}
 use Rattle.profile.specs.Shape.{mlucSize, curveSize, isGamma, shapeOf, firstSlots, colorSlots, cicpSlot, slotsOf, xybShape, xybLetters}
 use Rattle.profile.specs.Signatures as Sig
@@ -58,7 +58,7 @@ xyb-size = (refl, refl)
 -- the elements of a plan are as long as its shape tells
 pub length-elements : (i : ℕ) (c : Content) → Nines c → length (body (elementsFor i c)) ≡ bodySize (slotsOf (shapeOf c))
 unfolding elements
-length-elements i c h = length-body (elementsFor i c) ∙ ap bodySize (slots-shape (record { intent = i; maker = 0; model = 0; content = c }) h)
+length-elements i c h = length-body (elementsFor i c) ∙ ap bodySize (slots-shape (plainPlan i c) h)
 
 -- ---- `desc`, `cprt` and `wtpt`
 

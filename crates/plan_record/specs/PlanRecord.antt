@@ -27,7 +27,7 @@ words32le (suc n) l = word32le l ∷ words32le n (drop 4 l)
 
 -- how many numbers there are, and how many bytes numbers and letters have
 abbrev pub numberCount : ℕ
-numberCount = 28
+numberCount = 29
 
 abbrev pub recordSize : ℕ
 recordSize = 4 * numberCount + maxLetters
@@ -35,7 +35,7 @@ recordSize = 4 * numberCount + maxLetters
 -- the numbers in the order of the struct; an int32_t is held by its two's complement
 unfoldable pub recordNumbers : Reading → List ℕ
 recordNumbers r =
-    r .kind ∷ r .intent ∷ r .maker ∷ r .model ∷ r .curve ∷ twosComplement32 (r .gamma) ∷ r .cicp ∷ twosComplement32 (r .«white_x»)
+    r .kind ∷ r .intent ∷ r .maker ∷ r .model ∷ r .«id_not_computed» ∷ r .curve ∷ twosComplement32 (r .gamma) ∷ r .cicp ∷ twosComplement32 (r .«white_x»)
     ∷ twosComplement32 (r .«white_z»)
     ∷ (map twosComplement32 (r .chad) ++ (map twosComplement32 (r .columns) ++ (r .letters ∷ [])))
 
@@ -52,14 +52,15 @@ readingOf numbers text =
       intent = getD numbers 1 0;
       maker = getD numbers 2 0;
       model = getD numbers 3 0;
-      curve = getD numbers 4 0;
-      gamma = signed32 (getD numbers 5 0);
-      cicp = getD numbers 6 0;
-      «white_x» = signed32 (getD numbers 7 0);
-      «white_z» = signed32 (getD numbers 8 0);
-      chad = map signed32 (take 9 (drop 9 numbers));
-      columns = map signed32 (take 9 (drop 18 numbers));
-      letters = getD numbers 27 0;
+      «id_not_computed» = getD numbers 4 0;
+      curve = getD numbers 5 0;
+      gamma = signed32 (getD numbers 6 0);
+      cicp = getD numbers 7 0;
+      «white_x» = signed32 (getD numbers 8 0);
+      «white_z» = signed32 (getD numbers 9 0);
+      chad = map signed32 (take 9 (drop 10 numbers));
+      columns = map signed32 (take 9 (drop 19 numbers));
+      letters = getD numbers 28 0;
       text = text;
     }
 

@@ -2,6 +2,7 @@
 use Prim.Native.Nat.{ℕ, _+_, _*_, _≤_}
 use mathlib.Core.Path.{_≡_, refl, ap, ap₂, sym, _∙_}
 use mathlib.Core.Logic.{inl, inr}
+use mathlib.Core.Bool.{Bool, true, false, cond}
 use mathlib.Core.List.{List, [], _∷_, _++_, append-assoc, map}
 use native.Mathlib.Omega.{arith}
 use lib.Dec.{lit<}
@@ -45,6 +46,7 @@ pub record Held (r : Reading) : Type 0 where
   pub intent : Word (r .intent)
   pub maker : Word (r .maker)
   pub model : Word (r .model)
+  pub id-not-computed : Word (r .«id_not_computed»)
   pub curve : Word (r .curve)
   pub gamma : SFits w32 (r .gamma)
   pub cicp : Word (r .cicp)
@@ -83,26 +85,27 @@ module _ (r : Reading) (h : Held r) where
       (more (h .intent)
       (more (h .maker)
       (more (h .model)
+      (more (h .id-not-computed)
       (more (h .curve)
       (more (twosComplement32-lt (r .gamma) (h .gamma))
       (more (h .cicp)
       (more (twosComplement32-lt (r .«white_x») (h .white-x))
       (more (twosComplement32-lt (r .«white_z») (h .white-z))
-      (All-append (nine-words (h .chad)) (All-append (nine-words (h .columns)) (more (h .letters) none)))))))))))
+      (All-append (nine-words (h .chad)) (All-append (nine-words (h .columns)) (more (h .letters) none))))))))))))
 
   -- the nine numbers of chad, those of the columns, and what follows them, in the numbers of the struct
-  chad-back : map signed32 (take 9 (drop 9 (recordNumbers r))) ≡ r .chad
+  chad-back : map signed32 (take 9 (drop 10 (recordNumbers r))) ≡ r .chad
   unfolding recordNumbers
   chad-back = ap (map signed32) (take-at chad _ 9 chad-nine) ∙ signeds-back (r .chad) (h .chad .fit)
 
-  columns-back : map signed32 (take 9 (drop 18 (recordNumbers r))) ≡ r .columns
+  columns-back : map signed32 (take 9 (drop 19 (recordNumbers r))) ≡ r .columns
   unfolding recordNumbers
   columns-back =
       ap (λ (l : List ℕ). map signed32 (take 9 l)) (drop-at chad _ 9 chad-nine)
       ∙ ap (map signed32) (take-at columns _ 9 columns-nine)
       ∙ signeds-back (r .columns) (h .columns .fit)
 
-  letters-back : getD (recordNumbers r) 27 0 ≡ r .letters
+  letters-back : getD (recordNumbers r) 28 0 ≡ r .letters
   unfolding recordNumbers
   letters-back =
       ap (λ (l : List ℕ). getD l 18 0) (sym (append-assoc chad columns (r .letters ∷ [])))
@@ -118,6 +121,7 @@ module _ (r : Reading) (h : Held r) where
         intent = r .intent;
         maker = r .maker;
         model = r .model;
+        «id_not_computed» = r .«id_not_computed»;
         curve = r .curve;
         gamma = signed32-twosComplement32 (r .gamma) (h .gamma) j;
         cicp = r .cicp;
@@ -140,6 +144,10 @@ module _ (r : Reading) (h : Held r) where
       ∙ numbers-told)
 
 -- ---- a plan
+
+mark-word : (m : Bool) → Word (cond m 1 0)
+mark-word true = lit< tt
+mark-word false = lit< tt
 
 kind-word : (k : Kind) → Word (kindNumber k)
 kind-word Gray = lit< tt
@@ -235,6 +243,7 @@ plan-held p v =
       intent = n .intent;
       maker = v .maker;
       model = v .model;
+      id-not-computed = mark-word (p .id-not-computed);
       curve = curve-word (numbersOf p .curve);
       gamma = n .gamma;
       cicp = n .cicp;
@@ -251,5 +260,5 @@ pub read-letters : (f : List ℕ) → reading (read f) .letters ≤ maxLetters
 read-letters f = go (read f) refl
   where
     go : (a : Answer) → read f ≡ a → reading a .letters ≤ maxLetters
-    go (accepted p) e = numbers-held p (accepts-exactly f p .0 e .0) .letters
+    go (accepted p) e = numbers-held p (accepts-exactly f p .0 e .0 .valid) .letters
     go (refused c) e = omega arith

@@ -1,6 +1,7 @@
 -- The bytes that a plan lays out to (01, "Words of demand 3"): the header of its kind, the tag table, the elements with their padding,
--- and the id of all this. Assumes nothing.
+-- and the id of all this, or zeros where the plan has the mark (02, order 7). Assumes nothing.
 use Prim.Native.Nat.{ℕ}
+use mathlib.Core.Bool.{cond}
 use mathlib.Core.List.{List, [], _∷_, _++_, map}
 use lib.ListN.{take, drop}
 use lib.IntN.{ℤ, pos}
@@ -134,6 +135,14 @@ blanked f = join (take 44 f ∷ zeros 4 ∷ take 16 (drop 48 f) ∷ zeros 4 ∷ 
 unfoldable pub profileId : List ℕ → List ℕ
 profileId f = md5 (blanked f)
 
--- the plan's file: its id is that of the file
+-- the id of the plan's file
+unfoldable pub computedId : Plan → List ℕ
+computedId p = profileId (withId (zeros idSize) p)
+
+-- what stands in place of the id: sixteen zero bytes, if the plan has the mark
+unfoldable pub idFor : Plan → List ℕ
+idFor p = cond (p .id-not-computed) (zeros idSize) (computedId p)
+
+-- the plan's file
 unfoldable pub layout : Plan → List ℕ
-layout p = withId (profileId (withId (zeros 16) p)) p
+layout p = withId (idFor p) p

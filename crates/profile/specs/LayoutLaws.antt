@@ -1,8 +1,9 @@
--- Laws of the layout: how long it is, what its file is with the three fields blank, that the intent and the id go in last, and what maker and model
--- change.
+-- Laws of the layout: how long it is, what its file is with the three fields blank, what the mark changes, that the intent and the id go in last, and
+-- what maker and model change.
 -- Assumes nothing.
 use Prim.Native.Nat.{ℕ, _+_, _≤_}
 use mathlib.Core.Path.{_≡_, refl, ap, ap₂, sym, _∙_}
+use mathlib.Core.Bool.{Bool, true, false, cond}
 use mathlib.Core.List.{List, [], _++_, append-assoc, append-nil}
 use lib.ListN.{length, length-append, drop}
 use lib.Seq.{take-at, drop-at, drop-drop}
@@ -16,7 +17,7 @@ use Rattle.md5.specs.Md5.{md5}
 use Rattle.md5.specs.Md5Laws.{length-md5}
 use Rattle.profile.specs.Elements.{headerSize, file, fileLength}
 use Rattle.profile.specs.ElementsLaws.{Fours, length-file}
-use Rattle.profile.specs.Plan.{Plan, withDevice, kind, Good}
+use Rattle.profile.specs.Plan.{Plan, withDevice, withMark, kind, Good}
 use Rattle.profile.specs.declared.Kind.{Kind}
 use Rattle.profile.specs.declared.Kind.the-variants.{Gray, Rgb, Xyb}
 use Rattle.profile.specs.Signatures as Sig
@@ -135,7 +136,7 @@ header-put-id k v e r h g =
 pub plan-fours : (p : Plan) → Nines (p .content) → Fours (Layout.slots p)
 plan-fours p h = rw (slots-shape p h) (PlanLaws.fours (shape p))
 
-length-withId : (p : Plan) → Nines (p .content) → (id : List ℕ) → length id ≡ 16 → length (Layout.withId id p) ≡ fileLength (slotsOf (shape p))
+pub length-withId : (p : Plan) → Nines (p .content) → (id : List ℕ) → length id ≡ 16 → length (Layout.withId id p) ≡ fileLength (slotsOf (shape p))
 unfolding Layout.withId
 length-withId p h id e =
     length-file _ (Layout.elements p) (length-header (kind p) _ e) (plan-fours p h) ∙ ap fileLength (slots-shape p h)
@@ -144,9 +145,22 @@ pub length-id : (f : List ℕ) → length (Layout.profileId f) ≡ 16
 unfolding Layout.profileId
 length-id f = length-md5 (Layout.blanked f)
 
+pub length-computed : (p : Plan) → length (Layout.computedId p) ≡ 16
+unfolding Layout.computedId
+length-computed p = length-id _
+
+-- what stands in place of the id has sixteen bytes
+pub length-idFor : (p : Plan) → length (Layout.idFor p) ≡ 16
+unfolding Layout.idFor
+length-idFor p = go (p .id-not-computed)
+  where
+    go : (m : Bool) → length (cond m (zeros 16) (Layout.computedId p)) ≡ 16
+    go true = refl
+    go false = length-computed p
+
 pub length-layout : (p : Plan) → Nines (p .content) → length (Layout.layout p) ≡ fileLength (slotsOf (shape p))
 unfolding Layout.layout
-length-layout p h = length-withId p h _ (length-id _)
+length-layout p h = length-withId p h _ (length-idFor p)
 
 pub layout-bounds : (N : ℤ → Type 0) (p : Plan) → Good N p → (minLength ≤ length (Layout.layout p)) × (length (Layout.layout p) ≤ maxLength)
 layout-bounds N p g =
@@ -160,9 +174,35 @@ pub blanked-withId : (p : Plan) (id : List ℕ) → length id ≡ 16
 unfolding Layout.withId file
 blanked-withId p id h = header-blanked (kind p) _ _ h
 
+-- sixteen bytes put in place of the id
+pub put-id : (p : Plan) (d e : List ℕ) → length d ≡ 16 → length e ≡ 16 → put (Layout.withId d p) 84 e ≡ Layout.withId e p
+unfolding Layout.withId file
+put-id p d e h g = header-put-id (kind p) (Layout.varying (fileLength (Layout.slots p)) d p) e _ h g
+
+-- the id of a plan's file does not depend on what stands in its place
+pub any-id : (p : Plan) (d : List ℕ) → length d ≡ 16 → Layout.profileId (Layout.withId d p) ≡ Layout.computedId p
+unfolding Layout.computedId Layout.profileId
+any-id p d h = ap md5 (blanked-withId p d h ∙ sym (blanked-withId p (zeros 16) refl))
+
+-- ---- the mark
+
+-- the computed id does not depend on it
+pub mark-id : (m : Bool) (p : Plan) → Layout.computedId (withMark m p) ≡ Layout.computedId p
+unfolding Layout.computedId Layout.withId Layout.elements
+mark-id m p = refl
+
+-- without it the file has its id, with it zeros
+pub layout-computed : (p : Plan) → Layout.layout (withMark false p) ≡ Layout.withId (Layout.computedId p) p
+unfolding Layout.layout Layout.idFor Layout.computedId Layout.withId Layout.elements
+layout-computed p = refl
+
+pub layout-marked : (p : Plan) → Layout.layout (withMark true p) ≡ Layout.withId (zeros 16) p
+unfolding Layout.layout Layout.idFor Layout.withId Layout.elements
+layout-marked p = refl
+
 -- the intent and the id go in last, into the blank file
-pub layout-last : (p : Plan) → let f = Layout.blanked (Layout.withId (zeros 16) p) in put (put f 64 (be32 (p .intent))) 84 (md5 f) ≡ Layout.layout p
-unfolding Layout.layout Layout.profileId Layout.withId file
+pub layout-last : (p : Plan) → let f = Layout.blanked (Layout.withId (zeros 16) p) in put (put f 64 (be32 (p .intent))) 84 (md5 f) ≡ Layout.layout (withMark false p)
+unfolding Layout.computedId Layout.profileId Layout.withId file
 layout-last p =
     let k = kind p in
     let v = Layout.varying (fileLength (Layout.slots p)) (zeros 16) p in
@@ -170,31 +210,28 @@ layout-last p =
     let id = md5 (Layout.blanked (Layout.withId (zeros 16) p)) in
     ap (λ (f : List ℕ). put (put f 64 (be32 (p .intent))) 84 id) blank
     ∙ ap (λ (f : List ℕ). put f 84 id) (header-put-intent k (withIntent 0 v) (p .intent) _)
-    ∙ header-put-id k v id _ refl (length-md5 _)
+    ∙ put-id p (zeros 16) id refl (length-md5 _) ∙ sym (layout-computed p)
 
 -- ---- maker and model
-
--- the id of a plan's file does not depend on the one that stands in it
-pub any-id : (p : Plan) (d e : List ℕ) → length d ≡ 16 → length e ≡ 16 → Layout.profileId (Layout.withId d p) ≡ Layout.profileId (Layout.withId e p)
-unfolding Layout.profileId
-any-id p d e h g = ap md5 (blanked-withId p d h ∙ sym (blanked-withId p e g))
 
 -- maker and model do not change the length
 pub length-device : (p : Plan) (a b : ℕ) → length (Layout.layout (withDevice a b p)) ≡ length (Layout.layout p)
 unfolding Layout.layout Layout.withId Layout.elements file
-length-device p a b = simp (length-append, length-header, length-id)
+length-device p a b = simp (length-append, length-header, length-idFor)
 
 -- another maker and model: these eight bytes are put anew, and then the id of that file
-pub layout-device : (p : Plan) (a b : ℕ) → let f = put (Layout.layout p) 48 (be32 a ++ be32 b) in
-    Layout.layout (withDevice a b p) ≡ put f 84 (Layout.profileId f)
-unfolding Layout.layout Layout.withId Layout.elements file
+pub layout-device : (p : Plan) (a b : ℕ) → let f = put (Layout.layout (withMark false p)) 48 (be32 a ++ be32 b) in
+    Layout.layout (withMark false (withDevice a b p)) ≡ put f 84 (Layout.profileId f)
+unfolding Layout.computedId Layout.withId Layout.elements file
 layout-device p a b =
     let k = kind p in
     let n = fileLength (Layout.slots p) in
     let q = withDevice a b p in
-    let id = Layout.profileId (Layout.withId (zeros 16) p) in
-    let new = Layout.profileId (Layout.withId (zeros 16) q) in
-    let f = put (Layout.layout p) 48 (be32 a ++ be32 b) in
-    let here : f ≡ Layout.withId id q = header-put-device k (Layout.varying n id p) a b _ in
-    let same : Layout.profileId f ≡ new = ap Layout.profileId here ∙ any-id q id (zeros 16) (length-id _) refl in
-    sym (ap₂ (λ (x y : List ℕ). put x 84 y) here same ∙ header-put-id k (Layout.varying n id q) new _ (length-id _) (length-id _))
+    let id = Layout.computedId p in
+    let new = Layout.computedId q in
+    let f = put (Layout.layout (withMark false p)) 48 (be32 a ++ be32 b) in
+    let here : f ≡ Layout.withId id q =
+    ap (λ (l : List ℕ). put l 48 (be32 a ++ be32 b)) (layout-computed p) ∙ header-put-device k (Layout.varying n id p) a b _
+    in
+    let same : Layout.profileId f ≡ new = ap Layout.profileId here ∙ any-id q id (length-computed p) in
+    sym (ap₂ (λ (x y : List ℕ). put x 84 y) here same ∙ put-id q id new (length-computed p) (length-computed q) ∙ sym (layout-computed q))

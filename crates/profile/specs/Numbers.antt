@@ -1,9 +1,10 @@
--- A plan in code: its numbers by value, its text beside them. Where a kind has no such number the field is zero. Assumes nothing.
+-- A plan in code: its numbers by value, its text beside them. Where a kind has no such number the field is zero. The mark is not among them: what is
+-- laid out by code has its id computed. Assumes nothing.
 use Prim.Native.Nat.{ℕ}
 use mathlib.Core.List.{List, []}
 use lib.ListN.{replicate}
 use lib.IntN.{ℤ, pos}
-use Rattle.profile.specs.Plan.{Plan, Content, gray, rgb, xyb}
+use Rattle.profile.specs.Plan.{Plan, Content, gray, rgb, xyb, plainPlan, withDevice}
 use Rattle.profile.specs.declared.Kind.{Kind}
 use Rattle.profile.specs.declared.Kind.the-variants.{Gray, Rgb, Xyb}
 use Rattle.profile.specs.declared.Numbers.{Numbers}
@@ -13,7 +14,7 @@ use Rattle.profile.specs.declared.Curve.the-variants.{Named}
 use Rattle.profile.specs.declared.Cicp.{Cicp}
 use Rattle.profile.specs.declared.Cicp.the-variants.{Absent}
 
--- ---- the plan that numbers and a text make
+-- ---- the plan, without the mark, that numbers and a text make
 
 abbrev pub contentBy : Kind → Numbers → List ℕ → Content
 contentBy Gray p t = gray (record { text = t; curve = p .curve; white-x = p .«white_x»; white-z = p .«white_z» })
@@ -21,7 +22,7 @@ contentBy Rgb p t = rgb (record { text = t; curve = p .curve; chad = p .chad; co
 contentBy Xyb p t = xyb
 
 abbrev pub planOf : Numbers → List ℕ → Plan
-planOf p t = record { intent = p .intent; maker = p .maker; model = p .model; content = contentBy (p .kind) p t }
+planOf p t = withDevice (p .maker) (p .model) (plainPlan (p .intent) (contentBy (p .kind) p t))
 
 -- the numbers with this maker and this model
 abbrev pub numbersWith : ℕ → ℕ → Numbers → Numbers

@@ -1,9 +1,10 @@
--- A plan (the plan of 01): a kind, an intent, maker and model (02, order 6) and what a profile of that kind holds, in whole numbers; and which plans
--- there are.
+-- A plan (the plan of 01): a kind, an intent, maker and model (02, order 6), the mark "id not computed" (02, order 7) and what a profile of that kind
+-- holds, in whole numbers; and which plans there are, their mark aside (`Exists` of `reader_spec`).
 -- Assumes nothing.
 use Prim.Native.Nat.{ℕ, _^_, _≤_, _<_}
 use mathlib.Core.Path.{_≡_}
 use mathlib.Core.Logic.{_⊎_}
+use mathlib.Core.Bool.{Bool, false}
 use mathlib.Core.List.{List}
 use lib.ListN.{length}
 use lib.IntN.{ℤ, natAbs}
@@ -46,11 +47,21 @@ pub record Plan : Type 0 where
   -- the device's manufacturer and its model (7.2.12, 7.2.13): four bytes each as one number, the first byte the most significant
   pub maker : ℕ
   pub model : ℕ
+  -- the mark: sixteen zero bytes stand in place of the id, which ICC.1:2022 takes as not computed (7.2.18)
+  pub id-not-computed : Bool
   pub content : Content
+
+-- the plan of this intent and content whose maker and model are zero and whose id is computed
+abbrev pub plainPlan : ℕ → Content → Plan
+plainPlan i c = record { intent = i; maker = 0; model = 0; id-not-computed = false; content = c }
 
 -- the plan with this maker and this model
 abbrev pub withDevice : ℕ → ℕ → Plan → Plan
-withDevice a b p = record { intent = p .intent; maker = a; model = b; content = p .content }
+withDevice a b p = record { intent = p .intent; maker = a; model = b; id-not-computed = p .id-not-computed; content = p .content }
+
+-- the plan with the mark, or without it
+abbrev pub withMark : Bool → Plan → Plan
+withMark m p = record { intent = p .intent; maker = p .maker; model = p .model; id-not-computed = m; content = p .content }
 
 -- ---- the three kinds
 

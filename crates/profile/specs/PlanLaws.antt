@@ -1,6 +1,6 @@
 -- Laws of plans: the tag table depends on the shape alone, what shapes there are, and a plan in code. Assumes nothing.
 use Prim.Native.Nat.{ℕ, _≤_}
-use mathlib.Core.Path.{_≡_, refl, ap}
+use mathlib.Core.Path.{_≡_, refl, ap, sym}
 use mathlib.Core.Bool.{Bool, true, false}
 use mathlib.Core.List.{List, [], _∷_, _++_, map}
 use native.Mathlib.Omega.{arith}
@@ -13,7 +13,7 @@ use Rattle.profile.specs.Signatures as Sig
 use Rattle.profile.specs.Elements.{Element, slot, padding, start, bodySize, tagCount, fileLength}
 use Rattle.profile.specs.ElementsLaws.{Four, Fours}
 use Rattle.profile.specs.Plan
-use Rattle.profile.specs.Plan.{gray, rgb, xyb, withDevice, maxLetters}
+use Rattle.profile.specs.Plan.{gray, rgb, xyb, plainPlan, withDevice, withMark, maxLetters}
 use Rattle.profile.specs.Numbers.{contentBy, planOf, numbersWith, numbersFor, numbersOf, textFor, textOf}
 use Rattle.profile.specs.TagTypesLaws.{length-mluc, length-xyz, length-sf32, length-curve, length-cicp, length-a2b0, length-b2a0}
 use Rattle.profile.specs.Layout as Layout
@@ -61,18 +61,22 @@ slots-shape p h = go (p .intent) (p .content) h
 
 -- ---- a plan in code
 
--- a plan is what its numbers and its text make
-pub plan-of-numbers : (p : Plan.Plan) → planOf (numbersOf p) (textOf p) ≡ p
+-- a plan without the mark
+pub unmarked : (p : Plan.Plan) → p .id-not-computed ≡ false → withMark false p ≡ p
+unmarked p e = λ j. withMark (sym e j) p
+
+-- is what its numbers and its text make
+pub plan-of-numbers : (p : Plan.Plan) → planOf (numbersOf p) (textOf p) ≡ withMark false p
 plan-of-numbers p = go (p .intent) (p .content)
   where
-    go : (i : ℕ) (c : Plan.Content) → planOf (numbersWith (p .maker) (p .model) (numbersFor i c)) (textFor c) ≡ record { intent = i; maker = p .maker; model = p .model; content = c }
+    go : (i : ℕ) (c : Plan.Content) → planOf (numbersWith (p .maker) (p .model) (numbersFor i c)) (textFor c) ≡ withDevice (p .maker) (p .model) (plainPlan i c)
     go i (gray g) = refl
     go i (rgb g) = refl
     go i xyb = refl
 
 -- maker and model in the numbers are those of the plan
 pub plan-with : (a b : ℕ) (p : Numbers) (t : List ℕ) → planOf (numbersWith a b p) t ≡ withDevice a b (planOf p t)
-plan-with a b p t = ap (λ c. record { intent = p .intent; maker = a; model = b; content = c }) (go (p .kind))
+plan-with a b p t = ap (λ c. withDevice a b (plainPlan (p .intent) c)) (go (p .kind))
   where
     go : (k : Kind) → contentBy k (numbersWith a b p) t ≡ contentBy k p t
     go Gray = refl

@@ -8,7 +8,7 @@ pub use finder::find_line;
 use plan_checks::intent_is;
 use profile::MAX_LETTERS;
 use profile::Shape;
-use reader_checks::plan_refusal;
+use reader_checks::plan_answer;
 pub use reading::Reading;
 use reading::accepted;
 use reading::refused;
@@ -26,11 +26,11 @@ fn read_elements(file: &[u8], shape: Shape, intent: u32) -> Reading
     let plan = plan_in::numbers_in(file, shape, intent);
     let mut text = [0u8; MAX_LETTERS];
     let letters = plan_in::text_in(file, shape, &mut text);
-    let number = plan_refusal(file, plan, &text[..letters]);
-    if number != 0 {
-        return refused(number);
+    let answer = plan_answer(file, plan, &text[..letters]);
+    if answer.refusal != 0 {
+        return refused(answer.refusal);
     }
-    accepted(plan, letters, text)
+    accepted(plan, answer.id_not_computed, letters, text)
 }
 
 // Reads a file.

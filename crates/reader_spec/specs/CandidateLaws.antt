@@ -21,7 +21,7 @@ use Rattle.profile.specs.Plan.{Plan, Content, gray, rgb, xyb, kind, maxLetters,
 use Rattle.profile.specs.PlanLaws.{plan-of-numbers, good-nines, slots-shape}
 use Rattle.profile.specs.Numbers.{planOf, numbersWith, numbersFor, textFor}
 use Rattle.profile.specs.Layout.{elements, slots, profileId, layout}
-use Rattle.profile.specs.LayoutLaws.{length-id}
+use Rattle.profile.specs.LayoutLaws.{length-idFor}
 use Rattle.profile.specs.Shape.{isGamma, hasCicp, shapeOf, shape, slotsFor, slotsOf, mlucSize, NotBoth}
 use Rattle.profile.specs.declared.Kind.{Kind}
 use Rattle.profile.specs.declared.Kind.the-variants.{Gray, Rgb, Xyb}
@@ -140,13 +140,14 @@ content-good N a b i xyb h = unfold isAscii in refl
 
 drop-layout : (p : Plan) → Wide p → drop (start (slots p)) (layout p) ≡ body (elements p)
 unfolding layout
-drop-layout p w = drop-withId (SFits w32) p w _ (length-id _)
+drop-layout p w = drop-withId (SFits w32) p w _ (length-idFor p)
 
 module _ (f : List ℕ) (p : Numbers) (t : List ℕ) (c : Candidate f p t) where
   abbrev plan : Plan
   plan = PlanIn.planIn f
 
   pub plan-is : planOf p t ≡ plan
+  unfolding PlanIn.planIn
   plan-is = ap₂ planOf (c .numbers) (c .text) ∙ plan-of-numbers plan
 
   kind-is : PlanIn.shapeIn f .kind ≡ PlanIn.kindFrom f
@@ -223,6 +224,6 @@ module _ (f : List ℕ) (p : Numbers) (t : List ℕ) (c : Candidate f p t) where
 
     -- the id in the layout is that of the file
     pub id-laid : BodyIs plan f → take 16 (drop 84 (layout plan)) ≡ profileId f
-    unfolding varyingOf
+    unfolding varyingOf PlanIn.planIn
     id-laid b =
         laid-id (kind plan) f plan headed wide (record { header = headed .header; maker = maker-is; model = model-is; intent = intent-is; table = b .table; body = b .body })

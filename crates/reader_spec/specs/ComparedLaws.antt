@@ -7,9 +7,10 @@ use lib.ListN.{take, drop}
 use mir.Syntax.{w32}
 use mir.Val.{SFits}
 use Rattle.buffer.specs.BoolLaws.{true≢false}
-use Rattle.buffer.specs.Bytes.{same}
+use Rattle.buffer.specs.Bytes.{zeros, same}
 use Rattle.buffer.specs.BytesLaws.{same-if, same-of}
 use Rattle.profile.specs.Elements.{start}
+use Rattle.profile.specs.Plan.{withMark}
 use Rattle.profile.specs.Numbers.{planOf, numbersOf}
 use Rattle.profile.specs.Layout.{slots, profileId, layout}
 use Rattle.profile.specs.Shape.{shape, slotsOf}
@@ -17,19 +18,19 @@ use Rattle.profile.specs.declared.Numbers.{Numbers}
 use Rattle.reader_spec.specs.Table.{varyingOf}
 use Rattle.reader_spec.specs.PlanIn.{planIn}
 use Rattle.reader_spec.specs.FitsLaws.{Bytes}
-use Rattle.reader_spec.specs.RefusalList.{number, refusalNumber, c26, c27, c28}
+use Rattle.reader_spec.specs.RefusalList.{refused, accepted, c26, c27, c28}
 use Rattle.reader_spec.specs.Decide.{BodyIs}
 use Rattle.reader_spec.specs.Read.{fromId, fromRange, fromBody}
 use Rattle.reader_spec.specs.Steps.{Candidate}
-use Rattle.reader_spec.specs.StepsLaws.{body-26, body-range, range-27, range-id, id-28, id-accepted}
+use Rattle.reader_spec.specs.StepsLaws.{body-26, body-range, range-27, range-id, id-computed, id-not-computed, id-28}
 use Rattle.reader_spec.specs.Tests.{lettersAndCicpGood, numbersInRange}
 use Rattle.reader_spec.specs.TestsLaws.{in-range-content, content-in-range}
 use Rattle.reader_spec.specs.CandidateLaws.{plan-is, shape-is, wrong-letters, content, same-slots, body-if, body-of, id-laid}
 
 module _ (f : List ℕ) (p : Numbers) (t : List ℕ) (c : Candidate f p t) where
   -- a letter above 127 or another `cicp` value
-  pub by-letters : lettersAndCicpGood p t ≡ false → number c26 ≡ refusalNumber (fromBody f)
-  by-letters e = sym (ap refusalNumber (body-26 (planIn f) f refl (wrong-letters f p t c e)))
+  pub by-letters : lettersAndCicpGood p t ≡ false → fromBody f ≡ refused c26
+  by-letters e = body-26 (planIn f) f refl (wrong-letters f p t c e)
 
   module _ (bytes : Bytes f) (good : lettersAndCicpGood p t ≡ true) where
     starts : start (slotsOf (shape (planOf p t))) ≡ start (slots (planIn f))
@@ -52,8 +53,8 @@ module _ (f : List ℕ) (p : Numbers) (t : List ℕ) (c : Candidate f p t) where
 
     -- another byte in elements or padding
     pub by-elements : let at = start (slotsOf (shape (planOf p t))) in
-        same (drop at f) (drop at (layout (planOf p t))) ≡ false → number c26 ≡ refusalNumber (fromBody f)
-    by-elements e = sym (ap refusalNumber (body-26 (planIn f) f refl (λ b. true≢false (sym (same-of (is-same b)) ∙ e))))
+        same (drop at f) (drop at (layout (planOf p t))) ≡ false → fromBody f ≡ refused c26
+    by-elements e = body-26 (planIn f) f refl (λ b. true≢false (sym (same-of (is-same b)) ∙ e))
 
     module _ (elements : let at = start (slotsOf (shape (planOf p t))) in same (drop at f) (drop at (layout (planOf p t))) ≡ true) where
       body : BodyIs (planIn f) f
@@ -63,10 +64,10 @@ module _ (f : List ℕ) (p : Numbers) (t : List ℕ) (c : Candidate f p t) where
       to-range = body-range (planIn f) f refl body
 
       -- a number outside its range
-      pub by-range : numbersInRange p ≡ false → number c27 ≡ refusalNumber (fromBody f)
+      pub by-range : numbersInRange p ≡ false → fromBody f ≡ refused c27
       by-range e =
-          sym (ap refusalNumber (to-range ∙ range-27 (planIn f) f refl (λ h.
-          true≢false (sym (content-in-range (planIn f .maker) (planIn f .model) (planIn f .intent) (planIn f .content) h) ∙ sym (ap numbersInRange (c .numbers)) ∙ e))))
+          to-range ∙ range-27 (planIn f) f refl (λ h.
+          true≢false (sym (content-in-range (planIn f .maker) (planIn f .model) (planIn f .intent) (planIn f .content) h) ∙ sym (ap numbersInRange (c .numbers)) ∙ e))
 
       module _ (in-range : numbersInRange p ≡ true) where
         to-id : fromBody f ≡ fromId f
@@ -77,11 +78,21 @@ module _ (f : List ℕ) (p : Numbers) (t : List ℕ) (c : Candidate f p t) where
         laid : take 16 (drop 84 (layout (planOf p t))) ≡ profileId f
         laid = ap (λ q. take 16 (drop 84 (layout q))) (plan-is f p t c) ∙ id-laid f p t c bytes good body
 
-        -- another id
-        pub by-id : same (take 16 (drop 84 f)) (take 16 (drop 84 (layout (planOf p t)))) ≡ false → number c28 ≡ refusalNumber (fromBody f)
+        -- the correct id
+        pub by-correct : same (take 16 (drop 84 f)) (take 16 (drop 84 (layout (planOf p t)))) ≡ true → fromBody f ≡ accepted (withMark false (planIn f))
         unfolding varyingOf
-        by-id e = sym (ap refusalNumber (to-id ∙ id-28 f (λ h. true≢false (sym (same-of (h ∙ sym laid)) ∙ e))))
+        by-correct e = to-id ∙ id-computed f (same-if _ _ e ∙ laid)
 
-        pub by-none : same (take 16 (drop 84 f)) (take 16 (drop 84 (layout (planOf p t)))) ≡ true → 0 ≡ refusalNumber (fromBody f)
-        unfolding varyingOf
-        by-none e = sym (ap refusalNumber (to-id ∙ id-accepted (planIn f) f refl (same-if _ _ e ∙ laid)))
+        module _ (wrong : same (take 16 (drop 84 f)) (take 16 (drop 84 (layout (planOf p t)))) ≡ false) where
+          other : ¬ (take 16 (drop 84 f) ≡ profileId f)
+          other h = true≢false (sym (same-of (h ∙ sym laid)) ∙ wrong)
+
+          -- zeros that are not the correct id
+          pub by-zeros : same (take 16 (drop 84 f)) (zeros 16) ≡ true → fromBody f ≡ accepted (withMark true (planIn f))
+          unfolding varyingOf
+          by-zeros e = to-id ∙ id-not-computed f other (same-if _ _ e)
+
+          -- another id
+          pub by-another : same (take 16 (drop 84 f)) (zeros 16) ≡ false → fromBody f ≡ refused c28
+          unfolding varyingOf
+          by-another e = to-id ∙ id-28 f other (λ h. true≢false (sym (same-of h) ∙ e))

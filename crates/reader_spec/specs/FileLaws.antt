@@ -1,6 +1,7 @@
 -- What reading the regions of a plan's file gives, under any id; and that no two plans share a file. Assumes nothing.
 use Prim.Native.Nat.{ℕ, _+_, _^_, _<_}
 use mathlib.Core.Path.{_≡_, refl, ap, sym, _∙_}
+use mathlib.Core.Bool.{Bool, true, false, cond, true≢false}
 use mathlib.Core.List.{List, [], _∷_, _++_, append-assoc}
 use native.Mathlib.Omega.{arith}
 use lib.IntN.{ℤ, pos, negsuc}
@@ -14,7 +15,7 @@ use Rattle.buffer.specs.Bytes.{zeros, same}
 use Rattle.buffer.specs.All.{All, none, more}
 use Rattle.profile.specs.Elements.{start, tagCount, table, entries, body, file, fileLength}
 use Rattle.profile.specs.ElementsLaws.{Fours}
-use Rattle.profile.specs.Plan.{Plan, Content, gray, rgb, xyb, kind, FourBytes, GoodCurve, GoodContent, GoodIntent, Good, InRange, Valid, Wide}
+use Rattle.profile.specs.Plan.{Plan, Content, gray, rgb, xyb, plainPlan, withDevice, withMark, kind, FourBytes, GoodCurve, GoodContent, GoodIntent, Good, InRange, Valid, Wide}
 use Rattle.profile.specs.declared.Kind.{Kind}
 use Rattle.profile.specs.declared.Kind.the-variants.{Gray, Rgb, Xyb}
 use Rattle.profile.specs.PlanLaws.{good-nines, slots-shape}
@@ -22,10 +23,11 @@ use Rattle.profile.specs.Shape.{shape}
 use Rattle.profile.specs.declared.Shape.{Shape}
 use Rattle.profile.specs.TagTypes.{join}
 use Rattle.profile.specs.TagTypesLaws.{length-s15Fixed16s}
-use Rattle.profile.specs.Layout.{Varying, class, space, front, headerFields, header, varying, elements, slots, withId, profileId, layout}
-use Rattle.profile.specs.LayoutLaws.{length-header, plan-fours, length-id, length-layout, layout-bounds, any-id}
+use Rattle.profile.specs.Layout.{Varying, class, space, front, headerFields, header, varying, elements, slots, withId, computedId, idFor, layout}
+use Rattle.profile.specs.LayoutLaws.{length-header, plan-fours, length-idFor, length-withId, length-layout, layout-bounds, mark-id}
 use Rattle.profile.specs.declared.Curve.{Curve}
 use Rattle.profile.specs.declared.Curve.the-variants.{Named, Gamma}
+use Rattle.reader_spec.specs.Exists.{Exists}
 use Rattle.reader_spec.specs.JoinLaws.{from-part}
 use Rattle.reader_spec.specs.Table.{varyingOf, tagsOf, tableOf, bodyOf, entriesOf}
 use Rattle.reader_spec.specs.TableLaws.{tags-file, table-file, drop-start, body-file, entries-file, tails-file}
@@ -144,6 +146,11 @@ module _ (N : ℤ → Type 0) (p : Plan) (g : Good N p) (id : List ℕ) (sixteen
   says : Fits (varying (fileLength (slots p)) id p)
   says = record { size = small N p g; maker = g .maker; model = g .model; intent = intent-small (kind p) (p .intent) (g .intent); id = sixteen }
 
+  pub length-file : length (withId id p) ≡ fileLength (slots p)
+  length-file =
+      let nines = good-nines N (p .content) (g .content) in
+      length-withId p nines id sixteen ∙ ap fileLength (sym (slots-shape p nines))
+
   pub header-128 : length (header (kind p) (varying (fileLength (slots p)) id p)) ≡ 128
   header-128 = length-header (kind p) _ sixteen
 
@@ -186,7 +193,7 @@ module _ (N : ℤ → Type 0) (p : Plan) (g : Good N p) (id : List ℕ) (sixteen
 
 -- ---- the way back
 
-pub plan-in-withId : (p : Plan) → Wide p → (id : List ℕ) → length id ≡ 16 → planIn (withId id p) ≡ p
+pub plan-in-withId : (p : Plan) → Wide p → (id : List ℕ) → length id ≡ 16 → planIn (withId id p) ≡ withMark false p
 unfolding planIn elements
 plan-in-withId p g id h =
     let s : Shape = shapeIn (withId id p) in
@@ -195,25 +202,15 @@ plan-in-withId p g id h =
     ∙ content-back (p .intent) (p .content) (withId id p) (g .content)
     in
     let v = varying-withId (SFits w32) p g id h in
-    λ j. record { intent = v j .intent; maker = v j .maker; model = v j .model; content = c j }
+    λ j. withDevice (v j .maker) (v j .model) (plainPlan (v j .intent) (c j))
 
-plan-in-layout : (p : Plan) → Wide p → planIn (layout p) ≡ p
+plan-in-layout : (p : Plan) → Wide p → planIn (layout p) ≡ withMark false p
 unfolding layout
-plan-in-layout p g = plan-in-withId p g _ (length-id _)
+plan-in-layout p g = plan-in-withId p g _ (length-idFor p)
 
-pub layout-injective : (p q : Plan) → Wide p → Wide q → layout p ≡ layout q → p ≡ q
-layout-injective p q g h e = sym (plan-in-layout p g) ∙ ap planIn e ∙ plan-in-layout q h
-
--- the id and the size in a plan's file are those of that file
-pub id-layout : (p : Plan) → Wide p → varyingOf (layout p) .id ≡ profileId (layout p)
+pub varying-layout : (p : Plan) → Wide p → varyingOf (layout p) ≡ varying (fileLength (slots p)) (idFor p) p
 unfolding layout
-id-layout p g = ap (λ v. v .id) (varying-withId (SFits w32) p g _ (length-id _)) ∙ any-id p (zeros 16) _ refl (length-id _)
-
-pub size-layout : (p : Plan) → Wide p → varyingOf (layout p) .size ≡ length (layout p)
-size-layout p g = size ∙ sym (length-slots (SFits w32) p g)
-  where
-    size : varyingOf (layout p) .size ≡ fileLength (slots p)
-    size = unfold layout in ap (λ v. v .size) (varying-withId (SFits w32) p g _ (length-id _))
+varying-layout p g = varying-withId (SFits w32) p g _ (length-idFor p)
 
 -- ---- a valid plan's numbers are signed 32-bit numbers
 
@@ -247,3 +244,35 @@ module _ (M N : ℤ → Type 0) (f : (z : ℤ) → M z → N z) where
 
 pub valid-wide : (p : Plan) → Valid p → Wide p
 valid-wide p v = record { intent = v .intent; maker = v .maker; model = v .model; content = content-weaken InRange (SFits w32) in-range-fits (p .content) (v .content) }
+
+-- ---- the mark, and that no two plans share a file
+
+-- a plan is one with the mark and without it, but for the id
+pub mark-valid : (m : Bool) (p : Plan) → Valid p → Valid (withMark m p)
+mark-valid m p v = record { intent = v .intent; maker = v .maker; model = v .model; content = v .content }
+
+-- without it, it exists
+pub computed-exists : (p : Plan) → p .id-not-computed ≡ false → Valid p → Exists p
+computed-exists p e v = record { valid = v; mark = λ m z. absurd (true≢false (sym m ∙ e)) }
+
+-- the mark is told by what stands in place of the id: the plan with it exists only where the computed id is not itself zero
+same-mark : (a b : Bool) (id : List ℕ) → (a ≡ true → ¬ (id ≡ zeros 16)) → (b ≡ true → ¬ (id ≡ zeros 16))
+    → cond a (zeros 16) id ≡ cond b (zeros 16) id → a ≡ b
+same-mark true true id h g e = refl
+same-mark true false id h g e = absurd (h refl (sym e))
+same-mark false true id h g e = absurd (g refl e)
+same-mark false false id h g e = refl
+
+pub layout-injective : (p q : Plan) → Exists p → Exists q → layout p ≡ layout q → p ≡ q
+unfolding idFor
+layout-injective p q g h e =
+    let v : Wide p = valid-wide p (g .valid) in
+    let w : Wide q = valid-wide q (h .valid) in
+    let same : withMark false p ≡ withMark false q = sym (plan-in-layout p v) ∙ ap planIn e ∙ plan-in-layout q w in
+    let one-id : computedId p ≡ computedId q = sym (mark-id false p) ∙ ap computedId same ∙ mark-id false q in
+    let id : idFor p ≡ idFor q = ap (λ x. x .id) (sym (varying-layout p v) ∙ ap varyingOf e ∙ varying-layout q w) in
+    let mark : p .id-not-computed ≡ q .id-not-computed =
+    same-mark (p .id-not-computed) (q .id-not-computed) (computedId p) (g .mark) (λ m z. h .mark m (sym one-id ∙ z))
+    (id ∙ ap (cond (q .id-not-computed) (zeros 16)) (sym one-id))
+    in
+    λ j. withMark (mark j) (same j)

@@ -11,7 +11,8 @@ use Rattle.buffer.specs.Bytes.{same}
 use Rattle.profile.specs.Elements.{lineStart, Entry, Element, slot, paddedSize, entry, entries, start, body, bodySize, fileLength}
 use Rattle.profile.specs.Plan.{Plan, InRange, Valid}
 use Rattle.profile.specs.Layout.{elements, slots, layout}
-use Rattle.profile.specs.LayoutLaws.{length-id}
+use Rattle.profile.specs.LayoutLaws.{length-idFor}
+use Rattle.reader_spec.specs.Exists.{Exists}
 use Rattle.reader_spec.specs.Table.{tagsOf, entriesOf, absent, elementAt}
 use Rattle.reader_spec.specs.TableLaws.{next-body, first-element}
 use Rattle.reader_spec.specs.LinesLaws.{lineAt, linesFrom, from-line, from-none}
@@ -61,10 +62,10 @@ layout-within p v = record { table = in-table; line = in-line }
     size = unfold fileLength in length-slots InRange p v
 
     in-table : lineStart (tagsOf (layout p)) ≤ length (layout p)
-    in-table = rw size (unfold layout start in rw (tags-withId InRange p v _ (length-id _)) (omega arith))
+    in-table = rw size (unfold layout start in rw (tags-withId InRange p v _ (length-idFor p)) (omega arith))
 
     spans-are : spans (layout p) ≡ map span (entries (start (slots p)) (slots p))
-    spans-are = unfold layout in ap (map span) (entries-withId InRange p v _ (length-id _))
+    spans-are = unfold layout in ap (map span) (entries-withId InRange p v _ (length-idFor p))
 
     in-line : (s : Span) → In s (spans (layout p)) → end s ≤ length (layout p)
     in-line s m =
@@ -73,7 +74,7 @@ layout-within p v = record { table = in-table; line = in-line }
 
 accepted-within : (f : List ℕ) (p : Plan) → read f ≡ accepted p → Within f
 accepted-within f p e =
-    let h : Valid p × (layout p ≡ f) = accepts-exactly f p .0 e in subst Within (h .1) (layout-within p (h .0))
+    let h : Exists p × (layout p ≡ f) = accepts-exactly f p .0 e in subst Within (h .1) (layout-within p (h .0 .valid))
 
 line-within : (s : List ℕ) (n : ℕ) (es : List Entry) → ((x : Span) → In x (map span es) → end x ≤ n) → end (span (lineOf s es absent)) ≤ n
 unfolding lineOf
@@ -122,5 +123,5 @@ named-entries f s at (e ∷ es) h =
 pub named-layout : (s : List ℕ) (p : Plan) → Valid p → named (layout p) s (entriesOf (layout p)) ≡ elementUnder s (elements p)
 unfolding layout
 named-layout s p v =
-    rw (entries-withId InRange p v _ (length-id _))
-    (named-entries (layout p) s (start (slots p)) (elements p) (drop-withId InRange p v _ (length-id _)))
+    rw (entries-withId InRange p v _ (length-idFor p))
+    (named-entries (layout p) s (start (slots p)) (elements p) (drop-withId InRange p v _ (length-idFor p)))

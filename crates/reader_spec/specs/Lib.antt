@@ -5,6 +5,7 @@ pub mod LinesLaws
 pub mod PlanIn
 pub mod PlanInLaws
 pub mod FileLaws
+pub mod Exists
 pub mod RefusalList
 pub mod RefusalListLaws
 pub mod ShapesLaws

@@ -1,4 +1,4 @@
--- The plan that a file can only have, read from the bytes of its header, its tag table and its elements. Assumes nothing.
+-- The plan that a file can only have, its mark aside, read from the bytes of its header, its tag table and its elements. Assumes nothing.
 use Prim.Native.Nat.{ℕ, zero, suc, _+_, _*_, _/_, _-_}
 use mathlib.Core.Bool.{Bool, true, false, cond, _&&_}
 use mathlib.Core.List.{List, [], _∷_, _++_}
@@ -8,7 +8,7 @@ use lib.ListN.{length, take, drop, getD}
 use Rattle.words.specs.Words.{word32, signed32}
 use Rattle.buffer.specs.Bytes.{same}
 use Rattle.profile.specs.Elements.{Entry}
-use Rattle.profile.specs.Plan.{Plan, Content, gray, rgb, xyb}
+use Rattle.profile.specs.Plan.{Plan, Content, gray, rgb, xyb, plainPlan, withDevice}
 use Rattle.profile.specs.declared.Kind.{Kind}
 use Rattle.profile.specs.declared.Kind.the-variants.{Gray, Rgb, Xyb}
 use Rattle.profile.specs.TagTypes.{parameters}
@@ -141,4 +141,4 @@ unfoldable pub planIn : List ℕ → Plan
 planIn f =
     let s = shapeIn f in
     let v = varyingOf f in
-    record { intent = v .intent; maker = v .maker; model = v .model; content = contentFrom (s .kind) s (elementIn f) }
+    withDevice (v .maker) (v .model) (plainPlan (v .intent) (contentFrom (s .kind) s (elementIn f)))

@@ -1,11 +1,13 @@
--- The reader as a computation: the one plan that can lay out to a file is plan-is, and the file is held against it. `ReadLaws` shows that
+-- The reader as a computation: the one plan that can lay out to a file is read from it, and the file is held against it. `ReadLaws` shows that
 -- it answers as the refusal list says. Assumes nothing.
 use Prim.Native.Nat.{ℕ}
+use mathlib.Core.Bool.{true, false}
 use mathlib.Core.List.{List}
 use native.Mathlib.Decide.{decLe, ℕ-discrete}
 use lib.ListN.{length}
-use Rattle.profile.specs.Plan.{InRange}
-use Rattle.profile.specs.Layout.{profileId}
+use Rattle.buffer.specs.Bytes.{zeros}
+use Rattle.profile.specs.Plan.{Plan, InRange, withMark}
+use Rattle.profile.specs.Layout.{idSize, profileId}
 use Rattle.reader_spec.specs.Table.{varyingOf}
 use Rattle.reader_spec.specs.PlanIn.{kindFrom, shapeIn, planIn}
 use Rattle.reader_spec.specs.RefusalList.{Check, c21, c22, c23, c24, c25, c26, c27, c28, Answer, refused, accepted}
@@ -16,9 +18,17 @@ unfoldable pub check : {A : Type 0} → Dec A → Check → Answer → Answer
 check (yes a) c r = r
 check (no h) c r = refused c
 
+-- the correct id is tried first; zeros that are not the correct id mean not computed (02, order 7)
+unfoldable pub byId : {A B : Type 0} → Dec A → Dec B → Plan → Answer
+byId (yes correct) zero p = accepted (withMark false p)
+byId (no other) (yes zero) p = accepted (withMark true p)
+byId (no other) (no nonzero) p = refused c28
+
 -- what is left to answer from a check on
 unfoldable pub fromId : List ℕ → Answer
-fromId f = check (Decide.same-bytes (varyingOf f .id) (profileId f)) c28 (accepted (planIn f))
+fromId f =
+    let id = varyingOf f .id in
+    byId (Decide.same-bytes id (profileId f)) (Decide.same-bytes id (zeros idSize)) (planIn f)
 
 unfoldable pub fromRange : List ℕ → Answer
 fromRange f = check (Decide.content InRange Decide.in-range (planIn f .content)) c27 (fromId f)

@@ -1,34 +1,39 @@
 -- Each test of `read` is its check of the refusal list. Assumes nothing.
 use Prim.Native.Nat.{ℕ}
 use mathlib.Core.Path.{_≡_, refl, ap, sym, _∙_, subst}
+use mathlib.Core.Logic.{inl, inr, ⊎-elim}
+use mathlib.Core.Bool.{true, false}
 use mathlib.Core.List.{List, [], _∷_, _++_}
 use native.Mathlib.Decide.{decLe, ℕ-discrete}
 use lib.ListN.{length, drop}
 use Rattle.buffer.specs.First.{fails, later}
 use Rattle.profile.specs.Elements.{start, table, entries, fileLength}
-use Rattle.profile.specs.Plan.{Plan, kind, GoodContent, GoodIntent, InRange, Valid}
+use Rattle.buffer.specs.Bytes.{zeros}
+use Rattle.profile.specs.Plan.{Plan, withMark, kind, GoodContent, GoodIntent, InRange}
 use Rattle.profile.specs.declared.Kind.{Kind}
 use Rattle.profile.specs.PlanLaws.{good-nines, good-shape, slots-shape}
-use Rattle.profile.specs.Layout.{slots, profileId, layout}
+use Rattle.profile.specs.Layout.{elements, slots, profileId, computedId, layout}
+use Rattle.profile.specs.LayoutLaws.{mark-id}
 use Rattle.profile.specs.Shape.{shape}
 use Rattle.profile.specs.declared.Shape.{Shape}
+use Rattle.reader_spec.specs.Exists.{Exists}
 use Rattle.reader_spec.specs.Table.{varyingOf, bodyOf, entriesOf}
 use Rattle.reader_spec.specs.TableLaws.{entries-are}
 use Rattle.reader_spec.specs.PlanIn.{kindFrom, shapeFrom, shapeIn, elementIn, planIn}
 use Rattle.reader_spec.specs.PlanInLaws.{content-kind, shape-back, shape-kind}
-use Rattle.reader_spec.specs.FileLaws.{header-kind, fours, small, valid-wide}
+use Rattle.reader_spec.specs.FileLaws.{header-kind, fours, small, valid-wide, mark-valid, computed-exists}
 use Rattle.reader_spec.specs.ShapesLaws.{plain, plain-valid, plain-kind, plain-slots}
 use Rattle.reader_spec.specs.RefusalList
-use Rattle.reader_spec.specs.RefusalListLaws.{after-header, header-device, regions, has-plan-in, has-layout}
+use Rattle.reader_spec.specs.RefusalListLaws.{after-header, header-device, regions, has-plan-in, has-id, has-computed, has-zeros}
 use Rattle.reader_spec.specs.Decide as Decide
 use Rattle.reader_spec.specs.Decide.{TableIs, BodyIs}
-use Rattle.reader_spec.specs.Read.{check, fromId, fromRange, fromBody, fromTable, read}
+use Rattle.reader_spec.specs.Read.{check, byId, fromId, fromRange, fromBody, fromTable, read}
 
 -- ---- what is left to answer where the checks before cs are passed
 
 data From (f : List ℕ) : List RefusalList.Check → RefusalList.Answer → Type 0 where
   one-fails : {cs : List RefusalList.Check} {c : RefusalList.Check} → RefusalList.FirstFailing f cs c → From f cs (RefusalList.refused c)
-  all-pass : {cs : List RefusalList.Check} (p : Plan) → Valid p → layout p ≡ f → From f cs (RefusalList.accepted p)
+  all-pass : {cs : List RefusalList.Check} (p : Plan) → Exists p → layout p ≡ f → From f cs (RefusalList.accepted p)
 
 onward : {f : List ℕ} {c : RefusalList.Check} {cs : List RefusalList.Check} {r : RefusalList.Answer} → RefusalList.Passed c f → From f cs r → From f (c ∷ cs) r
 onward h (one-fails s) = one-fails (later h s)
@@ -103,10 +108,11 @@ module _ (f : List ℕ) (ok21 : RefusalList.Ok21 f) where
           has = record { header = subst (λ x. RefusalList.Header x f) (sym k) h; maker = refl; model = refl; intent = refl; table = b .table; body = b .body };
         }
 
-    plan-is : (a : RefusalList.Ok26 f) → planIn f ≡ a .plan
+    plan-is : (a : RefusalList.Ok26 f) → planIn f ≡ withMark false (a .plan)
     plan-is a = has-plan-in f ok21 ok22 (a .plan) (a .wide) (a .has)
 
     from-26 : RefusalList.Ok26 f → BodyIs (planIn f) f
+    unfolding elements
     from-26 a = rw (plan-is a) (record { good = a .wide .content; table = a .has .table; body = a .has .body })
 
     to-27 : RefusalList.Ok26 f → GoodContent InRange (planIn f .content) → RefusalList.Ok27 f
@@ -120,16 +126,34 @@ module _ (f : List ℕ) (ok21 : RefusalList.Ok21 f) where
     from-27 : RefusalList.Ok27 f → GoodContent InRange (planIn f .content)
     from-27 a = rw (plan-is (wide-27 a)) (a .valid .content)
 
-    last : RefusalList.Ok27 f → RefusalList.Ok28 f → From f [] (RefusalList.accepted (planIn f))
-    last a b =
-        rw (plan-is (wide-27 a))
-        (all-pass (a .plan) (a .valid) (has-layout f ok21 ok22 (a .plan) (valid-wide (a .plan) (a .valid)) (a .has) b))
+    -- the id is the correct one, or zeros that are not
+    module _ (a : RefusalList.Ok27 f) where
+      computed : varyingOf f .id ≡ profileId f → From f [] (RefusalList.accepted (withMark false (planIn f)))
+      computed e =
+          let p = a .plan in
+          rw (plan-is (wide-27 a))
+          (all-pass (withMark false p) (computed-exists (withMark false p) refl (mark-valid false p (a .valid))) (has-computed f ok21 ok22 p (valid-wide p (a .valid)) (a .has) e))
+
+      not-computed : ¬ (varyingOf f .id ≡ profileId f) → varyingOf f .id ≡ zeros 16 → From f [] (RefusalList.accepted (withMark true (planIn f)))
+      not-computed h e =
+          let p = a .plan in
+          let w = valid-wide p (a .valid) in
+          let nonzero : ¬ (computedId (withMark true p) ≡ zeros 16) = λ z. h (e ∙ sym (has-id f ok21 ok22 p w (a .has) ∙ sym (mark-id true p) ∙ z)) in
+          rw (plan-is (wide-27 a))
+          (all-pass (withMark true p) (record { valid = mark-valid true p (a .valid); mark = λ m. nonzero }) (has-zeros f ok21 ok22 p w (a .has) e))
 
     -- ---- from each check on
 
     from-id : RefusalList.Ok27 f → From f (RefusalList.c28 ∷ []) (fromId f)
-    unfolding fromId
-    from-id a = step f (Decide.same-bytes (varyingOf f .id) (profileId f)) RefusalList.c28 [] _ (λ h. record { id = h }) (λ b. b .id) (last a)
+    unfolding fromId byId
+    from-id a = go (Decide.same-bytes (varyingOf f .id) (profileId f)) (Decide.same-bytes (varyingOf f .id) (zeros 16))
+      where
+        go : (c : Dec (varyingOf f .id ≡ profileId f)) (z : Dec (varyingOf f .id ≡ zeros 16)) → From f (RefusalList.c28 ∷ []) (byId c z (planIn f))
+        go (yes e) z = onward (record { id = inl e }) (computed a e)
+        go (no h) (yes e) = onward (record { id = inr e }) (not-computed a h e)
+        go (no h) (no k) =
+            let neither : ¬ (RefusalList.Ok28 f) = λ b. ⊎-elim h k (b .id) in
+            one-fails (fails {c = RefusalList.c28} neither)
 
     from-range : RefusalList.Ok26 f → From f (RefusalList.c27 ∷ RefusalList.c28 ∷ []) (fromRange f)
     unfolding fromRange

@@ -1,13 +1,17 @@
 -- The reader, as the refusal list of 01 says it: the checks in order, each a fact of the file, and what it answers. Assumes nothing.
 use Prim.Native.Nat.{ℕ, _+_, _≤_}
 use mathlib.Core.Path.{_≡_}
+use mathlib.Core.Logic.{_⊎_}
+use mathlib.Core.Bool.{cond}
 use mathlib.Core.List.{List, [], _∷_}
 use lib.ListN.{length, take}
 use Rattle.buffer.specs.First.{First}
+use Rattle.buffer.specs.Bytes.{zeros}
 use Rattle.profile.specs.Elements.{headerSize, countSize, table, body, fileLength}
 use Rattle.profile.specs.Plan.{Plan, kind, GoodIntent, Valid, Wide}
 use Rattle.profile.specs.declared.Kind.{Kind}
-use Rattle.profile.specs.Layout.{header, elements, slots, profileId, layout}
+use Rattle.profile.specs.Layout.{idSize, header, elements, slots, profileId, layout}
+use Rattle.reader_spec.specs.Exists.{Exists}
 use Rattle.reader_spec.specs.Table.{varyingOf, tableOf, bodyOf}
 
 -- ---- what each check asks of a file
@@ -60,8 +64,9 @@ pub record Ok27 (f : List ℕ) : Type 0 where
   pub valid : Valid plan
   pub has : Has plan f
 
+-- the id is the correct one, or sixteen zero bytes, which means not computed (02, order 7)
 pub record Ok28 (f : List ℕ) : Type 0 where
-  pub id : varyingOf f .id ≡ profileId f
+  pub id : (varyingOf f .id ≡ profileId f) ⊎ (varyingOf f .id ≡ zeros idSize)
 
 -- ---- the checks in order
 
@@ -104,9 +109,14 @@ pub data Answer : Type 0 where
 -- the reader's answer to f: the first check that it does not pass, or the plan that lays out to it
 pub data Answers (f : List ℕ) : Answer → Type 0 where
   refuses : {c : Check} → FirstFailing f checks c → Answers f (refused c)
-  accepts : (p : Plan) → Valid p → layout p ≡ f → Answers f (accepted p)
+  accepts : (p : Plan) → Exists p → layout p ≡ f → Answers f (accepted p)
 
 -- 01's number of an answer, and 0 where the file is accepted
 abbrev pub refusalNumber : Answer → ℕ
 refusalNumber (refused c) = number c
 refusalNumber (accepted p) = 0
+
+-- 1 for a plan with the mark, and 0 otherwise
+abbrev pub markNumber : Answer → ℕ
+markNumber (refused c) = 0
+markNumber (accepted p) = cond (p .id-not-computed) 1 0

@@ -7,7 +7,7 @@ use native.Mathlib.Omega.{arith}
 use lib.IntN.{pos}
 use lib.ListN.{replicate, length-replicate}
 use Rattle.buffer.specs.AllLaws.{All-replicate}
-use Rattle.profile.specs.Plan.{maxLetters, Plan, Content, gray, rgb, xyb, kindOf, GoodText, GoodCurve, GoodCicp, GoodContent, GoodIntent, InRange, Valid}
+use Rattle.profile.specs.Plan.{maxLetters, Plan, Content, gray, rgb, xyb, plainPlan, kindOf, GoodText, GoodCurve, GoodCicp, GoodContent, GoodIntent, InRange, Valid}
 use Rattle.profile.specs.declared.Kind.{Kind}
 use Rattle.profile.specs.declared.Kind.the-variants.{Gray, Rgb, Xyb}
 use Rattle.profile.specs.PlanLaws.{good-nines, slots-shape}
@@ -36,7 +36,7 @@ contentFor Xyb n g v = xyb
 
 -- a text of A's, every number zero
 abbrev pub plain : Shape → Plan
-plain s = record { intent = 0; maker = 0; model = 0; content = contentFor (s .kind) (s .letters) (s .gamma) (s .cicp) }
+plain s = plainPlan 0 (contentFor (s .kind) (s .letters) (s .gamma) (s .cicp))
 
 good-text : (n : ℕ) → 1 ≤ n → n ≤ maxLetters → GoodText (replicate n 65)
 good-text n p q = record { some-letter = rw length-replicate p; short = rw length-replicate q; ascii = All-replicate n 65 (omega arith) }

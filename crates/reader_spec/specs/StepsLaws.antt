@@ -1,22 +1,26 @@
 -- What the reader answers where a check fails, and where it goes on. Assumes nothing.
 use Prim.Native.Nat.{ℕ, _≤_}
 use mathlib.Core.Path.{_≡_, refl, ap, sym, _∙_, subst}
+use mathlib.Core.Bool.{Bool, true, false}
 use mathlib.Core.List.{List}
 use native.Mathlib.Omega.{arith}
 use lib.ListN.{length}
-use Rattle.profile.specs.Plan.{Plan, GoodContent, GoodIntent, InRange, Wide}
+use mir.Syntax.{w32}
+use mir.Val.{SFits}
+use Rattle.buffer.specs.Bytes.{zeros}
+use Rattle.profile.specs.Plan.{Plan, withMark, GoodContent, GoodIntent, InRange, Wide}
 use Rattle.profile.specs.declared.Kind.{Kind}
-use Rattle.profile.specs.Layout.{profileId, layout}
-use Rattle.profile.specs.LayoutLaws.{length-id, any-id}
+use Rattle.profile.specs.Layout.{profileId, computedId, layout}
+use Rattle.profile.specs.LayoutLaws.{length-computed, layout-computed}
 use Rattle.profile.specs.declared.Shape.{Shape}
 use Rattle.reader_spec.specs.Table.{varyingOf}
 use Rattle.reader_spec.specs.PlanIn.{shapeIn, planIn}
-use Rattle.reader_spec.specs.FileLaws.{id-layout}
+use Rattle.reader_spec.specs.FileLaws.{varying-withId}
 use Rattle.reader_spec.specs.RefusalList
-use Rattle.reader_spec.specs.RefusalListLaws.{has-withId, id-length}
+use Rattle.reader_spec.specs.RefusalListLaws.{has-id}
 use Rattle.reader_spec.specs.Decide as Decide
 use Rattle.reader_spec.specs.Decide.{TableIs, BodyIs}
-use Rattle.reader_spec.specs.Read.{check, fromId, fromRange, fromBody, fromTable, read}
+use Rattle.reader_spec.specs.Read.{check, byId, fromId, fromRange, fromBody, fromTable, read}
 use Rattle.reader_spec.specs.Steps.{Sized, Headed, Tabled}
 
 passed : {A : Type 0} (d : Dec A) (c : RefusalList.Check) (r : RefusalList.Answer) → A → check d c r ≡ r
@@ -28,6 +32,23 @@ failed : {A : Type 0} (d : Dec A) (c : RefusalList.Check) (r : RefusalList.Answe
 unfolding check
 failed (yes a) c r h = absurd (h a)
 failed (no k) c r h = refl
+
+by-correct : {A B : Type 0} (c : Dec A) (z : Dec B) (p : Plan) → A → byId c z p ≡ RefusalList.accepted (withMark false p)
+unfolding byId
+by-correct (yes a) z p h = refl
+by-correct (no k) z p h = absurd (k h)
+
+by-zeros : {A B : Type 0} (c : Dec A) (z : Dec B) (p : Plan) → ¬ A → B → byId c z p ≡ RefusalList.accepted (withMark true p)
+unfolding byId
+by-zeros (yes a) z p h b = absurd (h a)
+by-zeros (no k) (yes c) p h b = refl
+by-zeros (no k) (no c) p h b = absurd (c b)
+
+by-another : {A B : Type 0} (c : Dec A) (z : Dec B) (p : Plan) → ¬ A → ¬ B → byId c z p ≡ RefusalList.refused RefusalList.c28
+unfolding byId
+by-another (yes a) z p h b = absurd (h a)
+by-another (no k) (yes c) p h b = absurd (b c)
+by-another (no k) (no c) p h b = refl
 
 -- ---- 21 to 24
 
@@ -65,7 +86,7 @@ pub table-body : (s : Shape) (f : List ℕ) → Tabled s f → fromTable f ≡ f
 unfolding fromTable
 table-body s f t = passed _ _ _ (subst (λ x. TableIs x f) (sym (t .shape-is)) (t .table-is))
 
--- ---- 26 to 28, with the plan that is plan-is
+-- ---- 26 to 28, with the plan that is read from the file
 
 module _ (p : Plan) (f : List ℕ) (e : planIn f ≡ p) where
   pub body-26 : ¬ (BodyIs p f) → fromBody f ≡ RefusalList.refused RefusalList.c26
@@ -84,31 +105,35 @@ module _ (p : Plan) (f : List ℕ) (e : planIn f ≡ p) where
   unfolding fromRange
   range-id c = passed _ _ _ (subst (λ x. GoodContent InRange (x .content)) (sym e) c)
 
-  pub id-accepted : varyingOf f .id ≡ profileId f → fromId f ≡ RefusalList.accepted p
+module _ (f : List ℕ) where
+  pub id-computed : varyingOf f .id ≡ profileId f → fromId f ≡ RefusalList.accepted (withMark false (planIn f))
   unfolding fromId
-  id-accepted h = passed _ _ _ h ∙ ap RefusalList.accepted e
+  id-computed h = by-correct _ _ (planIn f) h
 
-pub id-28 : (f : List ℕ) → ¬ (varyingOf f .id ≡ profileId f) → fromId f ≡ RefusalList.refused RefusalList.c28
-unfolding fromId
-id-28 f h = failed _ _ _ h
+  pub id-not-computed : ¬ (varyingOf f .id ≡ profileId f) → varyingOf f .id ≡ zeros 16 → fromId f ≡ RefusalList.accepted (withMark true (planIn f))
+  unfolding fromId
+  id-not-computed h z = by-zeros _ _ (planIn f) h z
+
+  pub id-28 : ¬ (varyingOf f .id ≡ profileId f) → ¬ (varyingOf f .id ≡ zeros 16) → fromId f ≡ RefusalList.refused RefusalList.c28
+  unfolding fromId
+  id-28 h k = by-another _ _ (planIn f) h k
 
 -- the id of a file that has a plan's regions is the one in the plan's layout
-pub laid-id : (k : Kind) (f : List ℕ) (p : Plan) → Headed k f → Wide p → RefusalList.Has p f → varyingOf (layout p) .id ≡ profileId f
-unfolding layout
+pub laid-id : (k : Kind) (f : List ℕ) (p : Plan) → Headed k f → Wide p → RefusalList.Has p f → varyingOf (layout (withMark false p)) .id ≡ profileId f
 laid-id k f p h w has =
-    let ok21 : RefusalList.Ok21 f = record { long = h .sized .long } in
-    let ok22 : RefusalList.Ok22 f = record { size = h .sized .size } in
-    id-layout p w ∙ any-id p _ (varyingOf f .id) (length-id _) (id-length f ok21) ∙ ap profileId (sym (has-withId f ok21 ok22 p w has))
+    ap (λ l. varyingOf l .id) (layout-computed p) ∙ ap (λ v. v .id) (varying-withId (SFits w32) p w (computedId p) (length-computed p))
+    ∙ sym (has-id f (record { long = h .sized .long }) (record { size = h .sized .size }) p w has)
 
--- what is accepted from 26 on is that plan
-pub accepted-plan : (f : List ℕ) → RefusalList.refusalNumber (fromBody f) ≡ 0 → fromBody f ≡ RefusalList.accepted (planIn f)
+-- what is accepted from 26 on is that plan, with the mark or without it
+pub accepted-plan : (f : List ℕ) → RefusalList.refusalNumber (fromBody f) ≡ 0 → (m : Bool) × (fromBody f ≡ RefusalList.accepted (withMark m (planIn f)))
 unfolding fromBody fromRange fromId
-accepted-plan f e = go _ _ _ (planIn f) e
+accepted-plan f e = go _ _ _ _ (planIn f) e
   where
-    go : {A B C : Type 0} (a : Dec A) (b : Dec B) (c : Dec C) (p : Plan)
-        → let r = check a RefusalList.c26 (check b RefusalList.c27 (check c RefusalList.c28 (RefusalList.accepted p))) in
-        RefusalList.refusalNumber r ≡ 0 → r ≡ RefusalList.accepted p
-    go (yes a) (yes b) (yes c) p e = unfold check in refl
-    go (yes a) (yes b) (no c) p e = absurd (unfold check in omega arith)
-    go (yes a) (no b) c p e = absurd (unfold check in omega arith)
-    go (no a) b c p e = absurd (unfold check in omega arith)
+    go : {A B C D : Type 0} (a : Dec A) (b : Dec B) (c : Dec C) (d : Dec D) (p : Plan)
+        → let r = check a RefusalList.c26 (check b RefusalList.c27 (byId c d p)) in
+        RefusalList.refusalNumber r ≡ 0 → (m : Bool) × (r ≡ RefusalList.accepted (withMark m p))
+    go (yes a) (yes b) (yes c) d p e = (false, unfold check byId in refl)
+    go (yes a) (yes b) (no c) (yes d) p e = (true, unfold check byId in refl)
+    go (yes a) (yes b) (no c) (no d) p e = absurd (unfold check byId in omega arith)
+    go (yes a) (no b) c d p e = absurd (unfold check in omega arith)
+    go (no a) b c d p e = absurd (unfold check in omega arith)

@@ -14,7 +14,7 @@ use Rattle.profile.specs.declared.Curve.{Curve}
 use Rattle.profile.specs.declared.Curve.the-variants.{Named, Gamma}
 use Rattle.profile.specs.declared.Cicp.{Cicp}
 use Rattle.profile.specs.declared.Cicp.the-variants.{Absent, Primaries}
-use Rattle.reader_spec.specs.RefusalList.{Answer, refused, accepted, number}
+use Rattle.reader_spec.specs.RefusalList.{Answer, refused, accepted, number, markNumber}
 use Rattle.reading.specs.declared.Reading.{Reading}
 
 -- ---- the values of the enums
@@ -59,6 +59,7 @@ refusedWith n =
       intent = 0;
       maker = 0;
       model = 0;
+      «id_not_computed» = 0;
       curve = 0;
       gamma = pos 0;
       cicp = 0;
@@ -70,15 +71,16 @@ refusedWith n =
       text = replicate maxLetters 0;
     }
 
--- a plan: its numbers, and its text in an array, of so many letters
-abbrev pub acceptedWith : Numbers → ℕ → List ℕ → Reading
-acceptedWith p n text =
+-- a plan: its numbers, its mark, and its text in an array, of so many letters
+abbrev pub acceptedWith : Numbers → ℕ → ℕ → List ℕ → Reading
+acceptedWith p m n text =
     record {
       refusal = 0;
       kind = kindNumber (p .kind);
       intent = p .intent;
       maker = p .maker;
       model = p .model;
+      «id_not_computed» = m;
       curve = curveNumber (p .curve);
       gamma = gammaNumber (p .curve);
       cicp = cicpNumber (p .cicp);
@@ -92,4 +94,4 @@ acceptedWith p n text =
 
 abbrev pub reading : Answer → Reading
 reading (refused c) = refusedWith (number c)
-reading (accepted p) = acceptedWith (numbersOf p) (length (textOf p)) (textArray (textOf p))
+reading (accepted p) = acceptedWith (numbersOf p) (markNumber (accepted p)) (length (textOf p)) (textArray (textOf p))

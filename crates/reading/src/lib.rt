@@ -15,6 +15,7 @@ pub struct Reading {
     pub intent: u32,
     pub maker: u32,
     pub model: u32,
+    pub id_not_computed: u32,
     pub curve: u32,
     pub gamma: i32,
     pub cicp: u32,
@@ -35,6 +36,7 @@ pub fn refused(number: u32) -> Reading
         intent: 0,
         maker: 0,
         model: 0,
+        id_not_computed: 0,
         curve: 0,
         gamma: 0,
         cicp: 0,
@@ -95,9 +97,14 @@ fn cicp_number(cicp: Cicp) -> u32
     }
 }
 
-// The plan in numbers: what is not set stays zero.
-pub fn accepted(plan: Numbers, letters: usize, text: [u8; MAX_LETTERS]) -> Reading
-    ensures { λ r. ⌜ r ≡ Answers.acceptedWith plan letters text ⌝ }
+// The plan in numbers, with its mark: what is not set stays zero.
+pub fn accepted(
+    plan: Numbers,
+    id_not_computed: u32,
+    letters: usize,
+    text: [u8; MAX_LETTERS],
+) -> Reading
+    ensures { λ r. ⌜ r ≡ Answers.acceptedWith plan «id_not_computed» letters text ⌝ }
 {
     let kind = plan.kind;
     let curve = plan.curve;
@@ -109,6 +116,7 @@ pub fn accepted(plan: Numbers, letters: usize, text: [u8; MAX_LETTERS]) -> Readi
     r.intent = plan.intent;
     r.maker = plan.maker;
     r.model = plan.model;
+    r.id_not_computed = id_not_computed;
     r.curve = curve_number(curve);
     r.gamma = gamma_number(curve);
     r.cicp = cicp_number(cicp);

@@ -241,7 +241,8 @@ fn reading(file: &[u8], out: &mut [u8]) -> usize {
     let text = r.text;
     put_word(&mut *out, 108, r.maker);
     put_word(&mut *out, 112, r.model);
-    let end = put(&mut *out, 116, part(&text, 0, r.letters));
+    put_word(&mut *out, 116, r.id_not_computed);
+    let end = put(&mut *out, 120, part(&text, 0, r.letters));
     let chad = r.chad;
     let columns = r.columns;
     put_plan(out, single_numbers(r), chad, columns);
@@ -563,7 +564,7 @@ fn main() {
     let list = part(&space, 0, n);
     if same_bytes(
         part(list, 0, 54),
-        b"merqyduk vectors, format 3, seed 1, jxl-rs 9b3c1af91e\n",
+        b"merqyduk vectors, format 4, seed 1, jxl-rs 9b3c1af91e\n",
     ) {
         replay(list, 54, &mut tally);
     } else {

@@ -24,7 +24,7 @@ use Rattle.adaptation.specs.Adapt.{chadMatrix}
 use Rattle.colorimetry.specs.Primaries.{createIccRgbMatrix}
 use Rattle.xyb_constants.specs.XybNumbers as Xyb
 use Rattle.xyb_constants.specs.XybNumbersLaws as XybLaws
-use Rattle.profile.specs.Plan.{Plan, Content, gray, rgb, xyb}
+use Rattle.profile.specs.Plan.{Plan, Content, gray, rgb, xyb, plainPlan}
 use Rattle.profile.specs.PlanLaws.{Nines}
 use Rattle.profile.specs.Layout.{D50}
 use Rattle.profile.specs.FixedConstants.{d50Floats, d50-rounded, parameters-rounded}
@@ -142,7 +142,7 @@ file-numbers (RgbColorSpace w q t i) {p} e =
     let floats = after (d50Floats ++ chad ++ columns) (transferFloats t) matrices (transfer-numbers t (g .support-is) (g .curve-is)) in
     subst (Numbers (RgbColorSpace w q t i)) (g .plan-is) (floats, (chad-nine (whiteXy w) (g .chad-is), columns-nine (primariesXy q) (whiteXy w) (g .columns-are)))
 file-numbers (XYB Perceptual) {p} e =
-    let same : record { intent = 0; maker = 0; model = 0; content = xyb } ≡ p = cc in
+    let same : plainPlan 0 xyb ≡ p = cc in
     subst (Numbers (XYB Perceptual)) same (after d50Floats Xyb.fixedFloats d50-rounded xyb-numbers, tt)
 file-numbers (XYB Relative) e = absurd (never e)
 file-numbers (XYB Saturation) e = absurd (never e)

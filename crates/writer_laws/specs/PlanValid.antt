@@ -11,7 +11,7 @@ use Rattle.color_encoding.specs.declared.RenderingIntent.the-variants.{Perceptu
 use Rattle.color_encoding.specs.declared.JxlColorEncoding.{JxlColorEncoding}
 use Rattle.color_encoding.specs.declared.JxlColorEncoding.the-variants.{RgbColorSpace, GrayscaleColorSpace, XYB}
 use Rattle.text.specs.Held.{HeldEncoding}
-use Rattle.profile.specs.Plan.{Plan, xyb, FourBytes, Valid}
+use Rattle.profile.specs.Plan.{Plan, xyb, plainPlan, FourBytes, Valid}
 use Rattle.encoding_plan.specs.PlanOf.{planOf}
 use Rattle.encoding_plan.specs.EncodingPlan.{encodingPlan}
 use Rattle.encoding_plan.specs.EncodingPlanLaws.{from-color}
@@ -56,7 +56,7 @@ plan-valid (RgbColorSpace w q t i) held {p} e =
           };
     })
 plan-valid (XYB Perceptual) held {p} e =
-    let same : record { intent = 0; maker = 0; model = 0; content = xyb } ≡ p = cc in
+    let same : plainPlan 0 xyb ≡ p = cc in
     rw (← same) (record { intent = refl; maker = omega arith; model = omega arith; content = tt })
 plan-valid (XYB Relative) held e = absurd (never e)
 plan-valid (XYB Saturation) held e = absurd (never e)

@@ -33,7 +33,7 @@ use Rattle.adaptation.specs.Adapt.{adaptable, chadMatrix}
 use Rattle.adaptation.specs.AdaptLaws.{chad-given, chad-refused}
 use Rattle.colorimetry.specs.Primaries.{primariesMatrix, createIccRgbMatrix}
 use Rattle.colorimetry.specs.PrimariesLaws.{matrix-given, matrix-refused}
-use Rattle.profile.specs.Plan.{Plan, xyb}
+use Rattle.profile.specs.Plan.{Plan, xyb, plainPlan}
 use Rattle.profile.specs.declared.Curve.the-variants.{Named, Gamma}
 use Rattle.profile.specs.declared.CurveName.{CurveName}
 use Rattle.profile.specs.declared.CurveName.the-variants as Name
@@ -156,7 +156,7 @@ xyb-answered i n = onward (XYB i) n tt (go i)
         (onward e n tt
         (onward e n tt
         (onward e n tt
-        (last e n (record { intent = intentNumber Perceptual; maker = 0; model = 0; content = xyb }) refl)))))))
+        (last e n (plainPlan (intentNumber Perceptual) xyb) refl)))))))
     go Relative = stops (fails (other refl))
     go Saturation = stops (fails (other refl))
     go Absolute = stops (fails (other refl))

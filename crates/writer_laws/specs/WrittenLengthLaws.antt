@@ -29,7 +29,7 @@ use Rattle.text.specs.Description.{underscore, whiteName, primariesName, transf
 use Rattle.text.specs.Held.{HeldEncoding, HeldPrimaries, InRange}
 use Rattle.text.specs.Bounds.{length-in-range}
 use Rattle.text.specs.BoundsLaws.{length-white-in-range, length-rgb-text}
-use Rattle.profile.specs.Plan.{Plan, xyb, maxLetters}
+use Rattle.profile.specs.Plan.{Plan, xyb, plainPlan, maxLetters}
 use Rattle.profile.specs.Layout.{layout}
 use Rattle.profile.specs.LayoutLaws.{length-layout}
 use Rattle.profile.specs.Elements.{fileLength, start, bodySize, tagCount, padding}
@@ -150,7 +150,7 @@ at-most (RgbColorSpace w q t i) held {p} e =
     rw (← g .plan-is, length-layout plan (chad-nine (whiteXy w) (g .chad-is), columns-nine (primariesXy q) (whiteXy w) (g .columns-are)))
     (rgb-most w q (length (description (RgbColorSpace w q t i))) (g .curve) (rgb-letters w q i (white-in-range w (g .chad-is)) (g .curve-is) t held (g .support-is)))
 at-most (XYB Perceptual) held {p} e =
-    let plan : Plan = record { intent = 0; maker = 0; model = 0; content = xyb } in
+    let plan : Plan = plainPlan 0 xyb in
     let same : plan ≡ p = cc in
     rw (← same, length-layout plan tt) (lit≤ tt)
 at-most (XYB Relative) held e = absurd (never e)

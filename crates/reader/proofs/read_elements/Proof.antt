@@ -1,4 +1,4 @@
--- The plan is the file's one plan, and its number tells the answer (`Answered`).
+-- The plan is the file's one plan, and its number and its mark tell the answer (`Answered`).
 use Prim.Native.Nat.{ℕ}
 use mathlib.Core.Path.{_≡_, ap, sym, _∙_, subst}
 use mathlib.Core.List.{List}
@@ -10,6 +10,7 @@ use Rattle.buffer.specs.PutsLaws.{in-front}
 use Rattle.profile.specs.Numbers.{textOf}
 use Rattle.profile.specs.declared.Shape.{Shape}
 use Rattle.reader_spec.specs.PlanIn.{planIn}
+use Rattle.reader_spec.specs.RefusalList.{markNumber}
 use Rattle.reader_spec.specs.Read.{fromBody}
 use Rattle.reader_spec.specs.Steps.{Tabled}
 use Rattle.reader_spec.specs.StepsLaws.{accepted-plan}
@@ -42,11 +43,11 @@ module _ (c : tie.After-text-in) where
 array-share-prefix-text : tie.Need-array-share-prefix-text
 array-share-prefix-text c = omega (arith, letters (c .before), simp length-append at (ap length (array (c .before))))
 
-slice-aggregate-plan-refusal : tie.Need-slice-aggregate-plan-refusal
-slice-aggregate-plan-refusal c = letters (c .before .before) ∙ sym (ap length (text (c .before .before)))
+slice-aggregate-plan-answer : tie.Need-slice-aggregate-plan-answer
+slice-aggregate-plan-answer c = letters (c .before .before) ∙ sym (ap length (text (c .before .before)))
 
-plan-refusal-requires : tie.Need-plan-refusal-requires
-plan-refusal-requires c κs =
+plan-answer-requires : tie.Need-plan-answer-requires
+plan-answer-requires c κs =
     let t = c .before .before in
     let s = begun t in
     record {
@@ -57,17 +58,20 @@ plan-refusal-requires c κs =
 
 returns : tie.Need-returns
 returns c =
-    let s = begun (c .before .before .before .before .before) in
-    c .refused .ensures ∙ refused-by (fromBody (file s)) (c .before .before .plan-refusal .ensures) (c .before .if1 .taken)
+    let p = c .before .before .before in
+    let s = begun (p .before .before .before) in
+    c .refused .ensures ∙ refused-by (fromBody (file s)) (p .plan-answer .ensures .0) (c .before .if1 .taken)
 
 returns-2 : tie.Need-returns-2
 returns-2 c =
-    let p = c .before .before in
+    let p = c .before .before .before in
     let t = p .before .before .before in
     let s = begun t in
+    let plan = accepted-plan (file s) (sym (p .plan-answer .ensures .0) ∙ c .before .if1 .left) in
+    let mark = p .plan-answer .ensures .1 ∙ ap markNumber (plan .1) in
     c .accepted .ensures
-    ∙ (λ j. acceptedWith (t .before .before .numbers-in .ensures j) (letters t j) (array t j))
-    ∙ sym (ap reading (accepted-plan (file s) (sym (p .plan-refusal .ensures) ∙ c .before .if1 .left)))
+    ∙ (λ j. acceptedWith (t .before .before .numbers-in .ensures j) (mark j) (letters t j) (array t j))
+    ∙ sym (ap reading (plan .1))
 
 pub read-elements-spec : {M : Type 1} → statement M
 read-elements-spec =
@@ -77,8 +81,8 @@ read-elements-spec =
     (λ c. search needs)
     (λ c κs. search needs)
     array-share-prefix-text
-    slice-aggregate-plan-refusal
-    plan-refusal-requires
+    slice-aggregate-plan-answer
+    plan-answer-requires
     (λ c κs. search needs)
     returns
     (λ c κs. search needs)

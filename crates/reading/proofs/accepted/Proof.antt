@@ -22,6 +22,7 @@ returns c =
       intent = start .plan .intent;
       maker = start .plan .maker;
       model = start .plan .model;
+      «id_not_computed» = start .id-not-computed;
       curve = told .before .before .before .curve-number .ensures j;
       gamma = told .before .before .gamma-number .ensures j;
       cicp = told .before .cicp-number .ensures j;
