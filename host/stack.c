@@ -262,6 +262,8 @@ int main(void) {
         if (length >= MERQYDUK_MIN_PROFILE) {
             memcpy(a.file, a.out, length);
             a.file_len = length;
+            /* Every other one without an id, which is read too. */
+            if (accepted % 2) memset(a.file + MERQYDUK_ID_OFFSET, 0, MERQYDUK_ID_SIZE);
             if (merqyduk_read(a.file, length, &a.plan, sizeof a.plan) == 0) accepted++;
         }
         /* One of these, or what the last profile says. */

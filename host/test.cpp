@@ -3,8 +3,8 @@
 // that are cut or have bytes left. Reads each profile back, finds its elements, and has files refused by each number. Puts files into segments of many
 // sizes and joins them, in order and out of it, whole and damaged. Types every named encoding, numbers of one's own, and texts that are no
 // description. Makes each call also with a count of numbers that were rounded, and counts them once more by their floats. Writes each profile with
-// other makers and models, which change their own bytes and the id alone, and reads it back. Writes the accepted profiles into the folder that it
-// is given.
+// other makers and models, which change their own bytes and the id alone, and reads it back. Reads each also with zeros in place of the id, which are
+// accepted, and with other bytes there, which are not. Writes the accepted profiles into the folder that it is given.
 #include "merqyduk.h"
 
 #include <sys/mman.h>
@@ -158,6 +158,12 @@ Bytes with(Bytes bytes, size_t at, uint8_t byte) {
     return bytes;
 }
 
+// With one bit changed.
+Bytes with_bit(Bytes bytes, size_t bit) {
+    bytes[bit / 8] ^= uint8_t(1 << bit % 8);
+    return bytes;
+}
+
 Bytes with_number(Bytes bytes, size_t at, int32_t number) {
     for (size_t i = 0; i < 4; i++) bytes[at + i] = uint8_t(uint32_t(number) >> (24 - 8 * i));
     return bytes;
@@ -199,6 +205,18 @@ Bytes with_id(Bytes f) {
     for (size_t at = 0; at < hashed.size(); at += 64) md5_block(&hashed[at], state);
     for (size_t i = 0; i < 16; i++) f[84 + i] = uint8_t(state[i / 4] >> (8 * (i % 4)));
     return f;
+}
+
+// The file with sixteen zero bytes in place of its id.
+Bytes without_id(Bytes f) {
+    std::fill(f.begin() + 84, f.begin() + 100, 0);
+    return f;
+}
+
+// A bit of the id, another each time.
+size_t next_id_bit() {
+    static size_t turn = 0;
+    return 8 * 84 + turn++ % 128;
 }
 
 // ---- maker and model
@@ -370,20 +388,23 @@ std::string text(const std::vector<uint8_t> &f) {
 // ---- a profile read back
 
 // The struct as `planRecord` of crates/plan_record lays it out.
-static_assert(sizeof(merqyduk_plan) == 484, "the size of the struct");
+const size_t plan_size = 488;
+static_assert(sizeof(merqyduk_plan) == plan_size, "the size of the struct");
 static_assert(offsetof(merqyduk_plan, kind) == 0 && offsetof(merqyduk_plan, intent) == 4, "kind and intent");
 static_assert(offsetof(merqyduk_plan, maker) == 8 && offsetof(merqyduk_plan, model) == 12, "maker and model");
-static_assert(offsetof(merqyduk_plan, curve) == 16 && offsetof(merqyduk_plan, gamma) == 20, "the curve");
-static_assert(offsetof(merqyduk_plan, cicp) == 24, "cicp");
-static_assert(offsetof(merqyduk_plan, white_x) == 28 && offsetof(merqyduk_plan, white_z) == 32, "the white");
-static_assert(offsetof(merqyduk_plan, chad) == 36 && offsetof(merqyduk_plan, columns) == 72, "chad and columns");
-static_assert(offsetof(merqyduk_plan, letters) == 108 && offsetof(merqyduk_plan, text) == 112, "the text");
+static_assert(offsetof(merqyduk_plan, id_not_computed) == 16, "the mark");
+static_assert(offsetof(merqyduk_plan, curve) == 20 && offsetof(merqyduk_plan, gamma) == 24, "the curve");
+static_assert(offsetof(merqyduk_plan, cicp) == 28, "cicp");
+static_assert(offsetof(merqyduk_plan, white_x) == 32 && offsetof(merqyduk_plan, white_z) == 36, "the white");
+static_assert(offsetof(merqyduk_plan, chad) == 40 && offsetof(merqyduk_plan, columns) == 76, "chad and columns");
+static_assert(offsetof(merqyduk_plan, letters) == 112 && offsetof(merqyduk_plan, text) == 116, "the text");
 
-// What was asked of the writer. The kinds are gray 1, RGB 2 and XYB 3.
+// What was asked of the writer, and whether zeros were put in place of the id then. The kinds are gray 1, RGB 2 and XYB 3.
 struct Asked {
     uint32_t kind, intent, curve;
     float gamma;
     Device device = {0, 0};
+    bool id_not_computed = false;
 };
 
 // Nine numbers of a file, from bytes of elements one after another; zeros where there are none.
@@ -406,6 +427,7 @@ merqyduk_plan plan_of(const Bytes &f, const Asked &asked) {
     plan.kind = asked.kind;
     plan.maker = asked.device.maker;
     plan.model = asked.device.model;
+    plan.id_not_computed = asked.id_not_computed ? 1 : 0;
     if (asked.kind == 3) return plan;
     plan.intent = asked.intent;
     plan.curve = asked.curve;
@@ -441,16 +463,16 @@ void reads(const std::string &name, const Bytes &f, const Asked &asked) {
     expect(merqyduk_read(f.data(), f.size(), nullptr, 0) == 9, name + " read into no record");
     for (bool at_end : {false, true}) {
         auto file = guarded(f, at_end);
-        for (size_t n : {size_t(0), size_t(1), size_t(112), size_t(483)}) {
+        for (size_t n : {size_t(0), size_t(1), size_t(116), plan_size - 1}) {
             Guarded record(n, at_end);
             expect(merqyduk_read(file->data(), f.size(), record.data(), n) == 9, name + " read into a short record");
             expect(record.unchanged_from(0), name + " leaves a short record unchanged");
         }
-        for (size_t n : {size_t(484), size_t(485), size_t(4096)}) {
+        for (size_t n : {plan_size, plan_size + 1, size_t(4096)}) {
             Guarded record(n, at_end);
             expect(merqyduk_read(file->data(), f.size(), record.data(), n) == 0, name + " read into a long record");
-            expect(std::memcmp(record.data(), &expected, 484) == 0, name + " has its plan at the front");
-            expect(record.unchanged_from(484), name + " leaves the rest of the record unchanged");
+            expect(std::memcmp(record.data(), &expected, plan_size) == 0, name + " has its plan at the front");
+            expect(record.unchanged_from(plan_size), name + " leaves the rest of the record unchanged");
         }
     }
 }
@@ -472,15 +494,38 @@ void finds(const std::string &name, const Bytes &f) {
     }
 }
 
-// A profile that is written, read back, and its elements found, with each maker and model.
+// The reader's number comes before 9, and nothing is found in such a file.
+void not_read(const std::string &name, uint32_t number, const Bytes &f) {
+    for (bool at_end : {false, true}) {
+        auto file = guarded(f, at_end);
+        for (size_t n : {size_t(0), plan_size - 1, plan_size, size_t(4096)}) {
+            Guarded record(n, at_end);
+            expect(merqyduk_read(file->data(), f.size(), record.data(), n) == number,
+                   name + " refused " + std::to_string(number));
+            expect(record.unchanged_from(0), name + " leaves the record unchanged");
+        }
+        uint32_t offset = 0xdeadbeefu;
+        expect(merqyduk_find(file->data(), f.size(), 0x64657363u, &offset) == 0, name + " has no element");
+        expect(offset == 0xdeadbeefu, name + " leaves the offset unchanged");
+    }
+}
+
+// A profile that is written, read back, and its elements found, with each maker and model. The same with zeros in place of its id; with a bit of the
+// id or of the zeros changed it is refused.
 Bytes profile(const std::string &name, uint32_t length, const Call &call, Asked asked) {
     const Bytes f = writes(name, length, call);
     for (const Device &device : devices) {
         same_device(name, length, call, device, f.data(), f.size(), true);
         const Bytes its = left_with(f, length, device);
+        const size_t bit = next_id_bit();
         asked.device = device;
-        reads(name, its, asked);
-        finds(name, its);
+        for (bool no_id : {false, true}) {
+            const Bytes file = no_id ? without_id(its) : its;
+            asked.id_not_computed = no_id;
+            reads(name, file, asked);
+            finds(name, file);
+            not_read(name + " with another id", 28, with_bit(file, bit));
+        }
     }
     return f;
 }
@@ -577,20 +622,9 @@ void joins(const std::string &name, uint32_t answer, const Segments &parts, cons
 
 // ---- files that are refused
 
-// The reader's number comes before 9; nothing is found in such a file, it is not put into segments, and from segments it does not come out.
+// The file is not read, it is not put into segments, and from segments it does not come out.
 void refuses_file(const std::string &name, uint32_t number, const Bytes &f) {
-    for (bool at_end : {false, true}) {
-        auto file = guarded(f, at_end);
-        for (size_t n : {size_t(0), size_t(483), size_t(484), size_t(4096)}) {
-            Guarded record(n, at_end);
-            expect(merqyduk_read(file->data(), f.size(), record.data(), n) == number,
-                   name + " refused " + std::to_string(number));
-            expect(record.unchanged_from(0), name + " leaves the record unchanged");
-        }
-        uint32_t offset = 0xdeadbeefu;
-        expect(merqyduk_find(file->data(), f.size(), 0x64657363u, &offset) == 0, name + " has no element");
-        expect(offset == 0xdeadbeefu, name + " leaves the offset unchanged");
-    }
+    not_read(name, number, f);
     for (size_t size : {size_t(0), size_t(1), size_t(100), size_t(65519), size_t(65520), SIZE_MAX})
         refuses_put(name, number, f, size);
     for (size_t size : {size_t(3), size_t(100), size_t(65519)}) {
@@ -600,6 +634,10 @@ void refuses_file(const std::string &name, uint32_t number, const Bytes &f) {
     }
 }
 
+// The white of a gray file: the third line of its table is `wtpt`, whose X follows eight bytes.
+size_t white_at(const Bytes &gray) { return word(gray, 160) + 8; }
+
+// By each number but 28, which comes last: the id may be the right one, or zeros stand in its place.
 void bad_files(const Bytes &srgb, const Bytes &gray, const Bytes &xyb) {
     expect(merqyduk_read(nullptr, 0, nullptr, 0) == 21, "no file and no record");
     for (size_t n : {size_t(0), size_t(1), size_t(131)})
@@ -622,34 +660,88 @@ void bad_files(const Bytes &srgb, const Bytes &gray, const Bytes &xyb) {
     refuses_file("a letter above 127", 26, with(srgb, word(srgb, 136) + 29, 128));
     refuses_file("another type", 26, with(gray, word(gray, 136), 'x'));
     refuses_file("a number of XYB", 26, with(xyb, xyb.size() - 1, uint8_t(xyb.back() ^ 1)));
-    // The third line of gray's table is `wtpt`, whose X follows eight bytes.
-    const size_t white = word(gray, 160) + 8;
+    const size_t white = white_at(gray);
     refuses_file("a white above its range", 27, with_number(gray, white, 2147483265));
     refuses_file("a white below its range", 27, with_number(gray, white, -2147483265));
-    refuses_file("another white", 28, with_number(gray, white, 2147483264));
-    refuses_file("another id", 28, with(srgb, 99, uint8_t(srgb[99] ^ 1)));
-    Bytes no_id = srgb;
-    std::fill(no_id.begin() + 84, no_id.begin() + 100, 0);
-    refuses_file("no id", 28, no_id);
-    // The id is of maker and model too.
-    for (const Bytes *f : {&srgb, &gray, &xyb})
-        for (size_t at = 48; at < 56; at++) refuses_file("another maker or model", 28, with(*f, at, uint8_t((*f)[at] ^ 1)));
 }
 
-// Each bit of the header changed, with the id that the file then has. Maker and model may be any, and the intent up to 3 but in XYB.
+// Each bit of the header changed, with the id that the file then has and with zeros in its place. Maker and model may be any, and the intent up to 3
+// but in XYB.
 void header_bits(const Bytes &f, uint32_t kind) {
     for (size_t bit = 0; bit < 8 * 128; bit++) {
         const size_t at = bit / 8;
-        const Bytes changed = with_id(with(f, at, uint8_t(f[at] ^ 1 << bit % 8)));
+        const Bytes changed = with_id(with_bit(f, bit));
         const bool device = at >= 48 && at < 56, intent = at >= 64 && at < 68, id = at >= 84 && at < 100;
         const bool known = kind != 3 && word(changed, 64) <= 3;
         const uint32_t expected = device || id || (intent && known) ? 0 : at < 4 ? 22 : intent ? 24 : 23;
-        merqyduk_plan plan{};
-        expect(merqyduk_read(changed.data(), changed.size(), &plan, sizeof plan) == expected,
-               "bit " + std::to_string(bit) + " of a header answered " + std::to_string(expected));
-        if (expected == 0)
-            expect(plan.maker == word(changed, 48) && plan.model == word(changed, 52), "maker and model of a header");
+        for (uint32_t mark : {0u, 1u}) {
+            const Bytes file = mark == 1 ? without_id(changed) : changed;
+            merqyduk_plan plan{};
+            expect(merqyduk_read(file.data(), file.size(), &plan, sizeof plan) == expected,
+                   "bit " + std::to_string(bit) + " of a header answered " + std::to_string(expected));
+            if (expected == 0)
+                expect(plan.maker == word(file, 48) && plan.model == word(file, 52) && plan.id_not_computed == mark,
+                       "maker, model and mark of a header");
+        }
     }
+}
+
+// ---- ids
+
+// Whether the file is read with its right id, and with zeros in place of it as the same plan with the mark; and whether it is refused, and the record
+// unchanged, with a bit of the id or of the zeros changed.
+bool id_right(const Bytes &f, size_t bit) {
+    const Bytes right = with_id(f), none = without_id(f);
+    merqyduk_plan held, plan, marked;
+    std::memset(&held, 0xa5, sizeof held);
+    if (merqyduk_read(right.data(), right.size(), &plan, sizeof plan) != 0 || plan.id_not_computed != 0) return false;
+    if (merqyduk_read(none.data(), none.size(), &marked, sizeof marked) != 0) return false;
+    plan.id_not_computed = 1;
+    if (std::memcmp(&plan, &marked, sizeof plan) != 0) return false;
+    for (const Bytes &wrong : {with_bit(right, bit), with_bit(none, bit)}) {
+        merqyduk_plan left = held;
+        if (merqyduk_read(wrong.data(), wrong.size(), &left, sizeof left) != 28) return false;
+        if (std::memcmp(&left, &held, sizeof left) != 0) return false;
+    }
+    return true;
+}
+
+// A file with an id that is the right one of another.
+void id_of_another(const std::string &name, const Bytes &f) {
+    refuses_file(name, 28, f);
+    expect(id_right(f, next_id_bit()), name + " with its right id and without one");
+}
+
+// With each bit of the right id changed, and of the zeros in its place; with bytes that are in part the right ones and zeros else; with other bytes.
+void bad_ids(const Bytes &f) {
+    const Bytes none = without_id(f);
+    for (const Bytes *from : {&f, &none})
+        for (size_t bit = 8 * 84; bit < 8 * 100; bit++) {
+            const Bytes wrong = with_bit(*from, bit);
+            // By all calls for at least one bit of each byte.
+            if (bit % 7 == 0) refuses_file("bit " + std::to_string(bit) + " of an id", 28, wrong);
+            else not_read("bit " + std::to_string(bit) + " of an id", 28, wrong);
+        }
+    for (size_t at = 84; at < 100; at++) {
+        Bytes front = none, back = f;
+        std::copy(f.begin() + 84, f.begin() + at, front.begin() + 84);
+        std::fill(back.begin() + 84, back.begin() + at, 0);
+        for (const Bytes &part : {front, back, with(f, at, 0), with(none, at, f[at])})
+            if (part != f && part != none) refuses_file("a part of an id", 28, part);
+    }
+    Bytes ones = f, turned = f;
+    std::fill(ones.begin() + 84, ones.begin() + 100, 0xff);
+    std::reverse(turned.begin() + 84, turned.begin() + 100);
+    refuses_file("ones for an id", 28, ones);
+    refuses_file("an id from its end on", 28, turned);
+    // The id is of maker and model too.
+    for (size_t at = 48; at < 56; at++) id_of_another("another maker or model", with(f, at, uint8_t(f[at] ^ 1)));
+}
+
+void ids(const Bytes &srgb, const Bytes &gray, const Bytes &xyb) {
+    for (const Bytes *f : {&srgb, &gray, &xyb}) bad_ids(*f);
+    for (int32_t number : {2147483264, -2147483264, 0}) id_of_another("another white", with_number(gray, white_at(gray), number));
+    id_of_another("another letter", with(srgb, word(srgb, 136) + 29, 'x'));
 }
 
 // ---- files that no encoding leads to, for the lengths that they have
@@ -1067,10 +1159,11 @@ void segments(const Bytes &srgb, const Bytes &gray, const Bytes &xyb) {
             std::string name;
             Bytes bytes;
         } files[] = {{"sRGB", with_device(srgb, device)}, {"gray", with_device(gray, device)}, {"XYB", with_device(xyb, device)}};
-        for (const auto &file : files) {
-            put_into_segments(file.name, file.bytes);
-            good_segments(file.name, file.bytes);
-        }
+        for (const auto &file : files)
+            for (const Bytes &bytes : {file.bytes, without_id(file.bytes)}) {
+                put_into_segments(file.name, bytes);
+                good_segments(file.name, bytes);
+            }
     }
     numbers_of_segments(srgb, gray);
     // The number of the file comes first, then 53, then 55.
@@ -1079,7 +1172,8 @@ void segments(const Bytes &srgb, const Bytes &gray, const Bytes &xyb) {
     expect(merqyduk_write_segments(gray.data(), gray.size(), 1, nullptr, 0) == 53, "too many segments and no output");
     expect(merqyduk_write_segments(gray.data(), gray.size(), 2, nullptr, 0) == 55, "no output");
 
-    good_segments("the longest file", with_letters(srgb, 372));
+    const Bytes longest = with_letters(srgb, 372);
+    for (const Bytes &f : {longest, without_id(longest)}) good_segments("the longest file", f);
     for (const Bytes *f : {&srgb, &gray, &xyb}) {
         bad_segments(*f);
         too_many_segments(*f);
@@ -1985,8 +2079,8 @@ void numbers_that_were_rounded() {
 
 // ---- maker and model by chance
 
-// Whether they change their own bytes and the id alone, and no refusal; and whether the plan that is read has them and is the same else. The answers
-// are counted.
+// Whether they change their own bytes and the id alone, and no refusal; and whether the plan that is read has them and is the same else, without an id
+// too. The answers are counted.
 bool device_right(const Call &call, Device device, std::map<uint32_t, int> &answers) {
     Bytes plain(1200, 7), its = plain;
     const uint32_t answer = call(plain.data(), plain.size());
@@ -1998,7 +2092,8 @@ bool device_right(const Call &call, Device device, std::map<uint32_t, int> &answ
         return false;
     plan.maker = device.maker;
     plan.model = device.model;
-    return std::memcmp(&plan, &its_plan, sizeof plan) == 0;
+    its.resize(answer);
+    return std::memcmp(&plan, &its_plan, sizeof plan) == 0 && id_right(its, next_id_bit());
 }
 
 void devices_by_chance(uint32_t space, const std::vector<uint32_t> &refusals) {
@@ -2096,8 +2191,17 @@ int main(int argc, char **argv) {
     save(folder, "gray-device", written(gray(0, 0, 0, 2, 0, 1), acme));
     save(folder, "xyb-device", written(xyb(0), acme));
 
-    for (const Device &device : {Device{0, 0}, acme})
-        bad_files(with_device(srgb, device), with_device(gray_d65, device), with_device(xyb_only, device));
+    // And profiles without an id.
+    save(folder, "srgb-no-id", without_id(srgb));
+    save(folder, "gray-no-id", without_id(gray_d65));
+    save(folder, "xyb-no-id", without_id(xyb_only));
+
+    for (const Device &device : {Device{0, 0}, acme}) {
+        const Bytes rgb_file = with_device(srgb, device), gray_file = with_device(gray_d65, device), xyb_file = with_device(xyb_only, device);
+        bad_files(rgb_file, gray_file, xyb_file);
+        bad_files(without_id(rgb_file), without_id(gray_file), without_id(xyb_file));
+        ids(rgb_file, gray_file, xyb_file);
+    }
     header_bits(srgb, 2);
     header_bits(gray_d65, 1);
     header_bits(xyb_only, 3);

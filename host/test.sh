@@ -1,7 +1,8 @@
 #!/bin/sh
 # Tries the library as a user of C or C++ has it: installs it into a folder by `make install`, and builds all that follows from there.
 # The calls (test.cpp), the C++ header (test_hpp.cpp), the stack that a call takes (stack.c), what the library defines and needs, the examples by
-# pkg-config, the id of each profile against a plain MD5. Other programs open the profiles where they are installed; what is skipped is said.
+# pkg-config, the id of each profile against a plain MD5. Other programs open the profiles, three of them without an id, where they are installed; what
+# is skipped is said.
 #
 #   host/test.sh [OUT]
 #
@@ -127,13 +128,18 @@ blanked_md5() {
     } | md5sum | cut -c 1-32
 }
 
-count=0
+zeros=00000000000000000000000000000000
+count=0 without=0
 for profile in "$out"/*.icc; do
     id=$(tail -c +85 "$profile" | head -c 16 | od -An -tx1 | tr -d ' \n')
-    [ "$id" = "$(blanked_md5 "$profile")" ] || fail "the id of $profile is wrong"
+    case $profile in
+    *-no-id.icc) expected=$zeros without=$((without + 1)) ;;
+    *) expected=$(blanked_md5 "$profile") ;;
+    esac
+    [ "$id" = "$expected" ] || fail "the id of $profile is wrong"
     count=$((count + 1))
 done
-echo "ids: $count of $count are the MD5 of their profile"
+echo "ids: $((count - without)) of $count are the MD5 of their profile, $without are zeros"
 
 if command -v exiftool >/dev/null; then
     for profile in "$out"/*.icc; do
@@ -147,13 +153,18 @@ if command -v exiftool >/dev/null; then
         [ "$said" = 'ACME PLT1 ' ] || fail "exiftool shows another maker or model of $profile-device.icc: $said"
     done
     echo "exiftool: maker ACME and model PLT1 in 3 of 3"
+    for profile in srgb gray xyb; do
+        said=$(exiftool -s3 -ProfileID "$out/$profile-no-id.icc")
+        [ "$said" = 0 ] || fail "exiftool shows an id of $profile-no-id.icc: $said"
+    done
+    echo "exiftool: id 0 in 3 of 3 without an id"
 else
     skipped "exiftool's view of the profiles" libimage-exiftool-perl
 fi
 
 # The white of each, as lcms2 has it in the PCS.
 if command -v transicc >/dev/null; then
-    for profile in srgb srgb-relative own gray xyb; do
+    for profile in srgb srgb-relative srgb-no-id own gray xyb; do
         case $profile in
         gray) white=255 ;;
         # XYB's color of white, (0, Y, Y), scaled as the profile wants it.
@@ -173,7 +184,14 @@ if printf '#include <lcms2.h>\n' | cc -fsyntax-only -x c - 2>/dev/null; then
         [ "$said" = "$(printf 'device\tACME\tPLT1')" ] || fail "lcms2 has another maker or model of $profile-device.icc: $said"
     done
     echo "lcms2: maker ACME and model PLT1 in 3 of 3"
+    for profile in srgb gray xyb; do
+        said=$("$out/lcms" id "$out/$profile-no-id.icc") || fail "lcms2 does not open $profile-no-id.icc"
+        [ "$said" = "$(printf 'id\t%s' $zeros)" ] || fail "lcms2 has an id of $profile-no-id.icc: $said"
+        said=$("$out/lcms" white "$out/$profile-no-id.icc") || fail "lcms2 has no white of $profile-no-id.icc, or another: $said"
+        [ "$said" = "$("$out/lcms" white "$out/$profile.icc")" ] || fail "lcms2 has another white of $profile-no-id.icc than of $profile.icc"
+    done
+    echo "lcms2: zeros for an id in 3 of 3 without an id, white as with one"
 else
-    skipped "lcms2's view of maker and model" liblcms2-dev
+    skipped "lcms2's view of maker, model and id" liblcms2-dev
 fi
 echo "host/test.sh: passed"

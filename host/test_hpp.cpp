@@ -249,6 +249,33 @@ void files() {
     expect(!find(profile.data(), profile.size() - 1, "kTRC"), "an element of a cut profile");
 }
 
+// The file with sixteen zero bytes in place of its id.
+std::vector<std::uint8_t> without_id(const Profile &profile) {
+    std::vector<std::uint8_t> file(profile.begin(), profile.end());
+    std::fill_n(file.begin() + MERQYDUK_ID_OFFSET, MERQYDUK_ID_SIZE, std::uint8_t(0));
+    return file;
+}
+
+void files_without_id() {
+    for (const Encoding &encoding : {Encoding::srgb(), Encoding::xyb(), Encoding::srgb(Intent::relative, Device::of("ACME", "PLT1")),
+                                     Encoding::gray(White::d65(), Curve::srgb(), Intent::relative)}) {
+        const Profile profile = write(encoding);
+        std::vector<std::uint8_t> file = without_id(profile);
+        const Reading reading = read(file.data(), file.size());
+        Reading written = read(profile.data(), profile.size());
+        expect(reading && written && reading.plan.id_not_computed == 1 && written.plan.id_not_computed == 0, "a mark where there is no id");
+        written.plan.id_not_computed = 1;
+        expect(std::memcmp(&reading.plan, &written.plan, sizeof reading.plan) == 0, "the same plan else");
+        expect(id(file.data()) == Id{} && profile.id() != Id{}, "zeros in place of the id");
+        const Element found = find(file.data(), file.size(), "desc"), same = find(profile.data(), profile.size(), "desc");
+        expect(found && found.size == same.size && found.data - file.data() == same.data - profile.data(), "an element of a file without an id");
+        file[MERQYDUK_ID_OFFSET + 5] = 1;
+        const Reading wrong = read(file.data(), file.size());
+        expect(!wrong && wrong.refusal == MERQYDUK_REFUSED_ID && wrong.plan.kind == 0, "another id");
+        expect(!find(file.data(), file.size(), "desc"), "an element of a file with another id");
+    }
+}
+
 // Both ways to call, lent and into a vector, answer and write what the C call does.
 void puts(const std::uint8_t *file, std::size_t file_len, std::size_t size) {
     const std::string name = std::to_string(file_len) + " bytes in segments of " + std::to_string(size);
@@ -296,6 +323,8 @@ void segments() {
                                  std::size_t(MERQYDUK_MAX_SEGMENT_DATA), std::size_t(65520), SIZE_MAX})
             puts(profile.data(), profile.size(), size);
         puts(profile.data(), profile.size() - 1, 100);
+        const std::vector<std::uint8_t> file = without_id(profile);
+        puts(file.data(), file.size(), profile.size() / 3);
     }
     puts(nullptr, 0, 0);
     // One segment with 3,000 bytes of data: a header and size field of sRGB's, and zeros.
@@ -338,6 +367,7 @@ int main() {
     texts_of_encodings();
     jobs();
     files();
+    files_without_id();
     segments();
     texts();
     std::printf("merqyduk.hpp: %d of %d\n", tried - failed, tried);

@@ -13,7 +13,8 @@
  * they answer.
  *
  * Id. A profile's id is its bytes 84 to 99, MERQYDUK_ID_SIZE bytes from MERQYDUK_ID_OFFSET on: MD5 of the
- * profile with bytes 44 to 47, 64 to 67 and 84 to 99 zero.
+ * profile with bytes 44 to 47, 64 to 67 and 84 to 99 zero. Every profile that is written has it. The calls
+ * that take a file take one with sixteen zero bytes in its place too: in ICC.1 they mean that it is not computed.
  *
  * Maker and model. A profile names the maker of its device in bytes 48 to 51 and the model in bytes 52 to 55
  * (ICC.1: device manufacturer and device model). Each is any four bytes, and a call takes or tells it as one
@@ -49,9 +50,9 @@
 #include <string.h>
 
 #define MERQYDUK_VERSION_MAJOR 0
-#define MERQYDUK_VERSION_MINOR 14
+#define MERQYDUK_VERSION_MINOR 15
 #define MERQYDUK_VERSION_PATCH 0
-#define MERQYDUK_VERSION_STRING "0.14.0"
+#define MERQYDUK_VERSION_STRING "0.15.0"
 
 /* The lengths of the profiles that are written, in bytes. */
 #define MERQYDUK_MIN_PROFILE 284
@@ -197,7 +198,7 @@ static inline const char *merqyduk_refusal_text(uint32_t refusal) {
     case MERQYDUK_REFUSED_RANGE:
         return "a number is outside its range";
     case MERQYDUK_REFUSED_ID:
-        return "the id is wrong";
+        return "the id is neither the correct one nor sixteen zero bytes";
     case MERQYDUK_REFUSED_JOB_EARLY:
         return "the job ends early: a count or an entry is missing or cut";
     case MERQYDUK_REFUSED_JOB_LEFT:
@@ -445,10 +446,11 @@ uint32_t merqyduk_job_profile(const uint8_t *job, size_t job_len, size_t i, uint
 
 /* A plan: all that a profile of the library says. Fixed numbers are 65536ths. A member that a kind does not use is 0. */
 struct merqyduk_plan {
-    uint32_t kind;       /* 1 gray, 2 RGB, 3 XYB, which uses maker and model alone of the others */
+    uint32_t kind;       /* 1 gray, 2 RGB, 3 XYB, which uses maker, model and id_not_computed alone of the others */
     uint32_t intent;     /* MERQYDUK_INTENT_... */
     uint32_t maker;      /* maker and model, of every kind: any numbers */
     uint32_t model;
+    uint32_t id_not_computed; /* 1: sixteen zero bytes stand in place of the id; 0: the id is the correct one */
     uint32_t curve;      /* MERQYDUK_CURVE_... */
     int32_t gamma;       /* the fixed number of 1/gamma; 0 for a named curve */
     uint32_t cicp;       /* RGB: the ColourPrimaries value of the cicp tag; 0 where there is none */
@@ -462,7 +464,8 @@ struct merqyduk_plan {
 
 /* Reads the file into a struct merqyduk_plan: merqyduk_read(file, file_len, &plan, sizeof plan). Answers 0, and the plan is
  * the one whose profile has exactly these bytes; where more is lent than the struct, the rest is unchanged. Or it answers 21
- * to 28, or 9 where less is lent than the struct, tested in this order, and all that is lent is unchanged. */
+ * to 28, or 9 where less is lent than the struct, tested in this order, and all that is lent is unchanged. The correct id is
+ * tried first, then sixteen zero bytes, which set id_not_computed; 28 is left for any other id. */
 uint32_t merqyduk_read(const uint8_t *file, size_t file_len, void *plan, size_t plan_len);
 
 /* Answers the size of the element of a tag and sets *offset to its place in the file. signature is the four bytes of the

@@ -139,7 +139,7 @@ class Answer {
 
 using Id = std::array<std::uint8_t, MERQYDUK_ID_SIZE>;
 
-// The id of a profile, which has at least 100 bytes.
+// The id of a profile, which has at least 100 bytes; all zero where it is not computed.
 inline Id id(const std::uint8_t *profile) noexcept {
     Id bytes;
     std::copy_n(profile + MERQYDUK_ID_OFFSET, bytes.size(), bytes.begin());
