@@ -361,7 +361,7 @@ pub fn validation(encoding: &Encoding) -> u32 {
 /// The reader's answer. The fields are filled before, so that one that is not written shows.
 pub fn read(file: &[u8]) -> Reading {
     let mut reading = Reading {
-        codes: [0xa5; 7],
+        codes: [0xa5; 8],
         free: [0xa5; 3],
         chad: [0xa5; 9],
         columns: [0xa5; 9],

@@ -1,4 +1,4 @@
-//! The reader and the finder against the judge's own, which goes by 01's words.
+//! The reader and the finder against the judge's own, which goes by the words of 01 and 02.
 
 use std::fmt::{Display, Formatter, Result as Printed};
 use std::path::Path;
@@ -6,7 +6,7 @@ use std::path::Path;
 use judge::encoding::{Device, GRAY, RGB, XYB};
 use judge::inputs::{Random, damage, plans, profile_cases};
 use judge::list::hex;
-use judge::profiles::{self, Sheet, set_id, set_size};
+use judge::profiles::{self, Sheet, change_id, set_id, set_size, zero_id};
 use judge::progress::Progress;
 use judge::reader::{self, Plan};
 
@@ -43,8 +43,8 @@ const SIGNATURES: [&[u8; 4]; 21] = [
 /// The reader's answer as the port gives it.
 #[derive(Clone, Debug, PartialEq, Eq)]
 pub struct Reading {
-    /// Refusal, kind, intent, maker, model, curve and `cicp`.
-    pub codes: [u32; 7],
+    /// Refusal, kind, intent, maker, model, the mark of an id that is not computed, curve and `cicp`.
+    pub codes: [u32; 8],
     /// Gamma, and X and Z of a gray white.
     pub free: [i32; 3],
     pub chad: [i32; 9],
@@ -63,8 +63,9 @@ impl Reading {
         text[..plan.text.len()].copy_from_slice(&plan.text);
         let [kind, curve, cicp] = [plan.kind, plan.curve, plan.cicp].map(u32::from);
         let Device { maker, model } = plan.device;
+        let mark = plan.id_not_computed.into();
         Self {
-            codes: [refusal, kind, plan.intent, maker, model, curve, cicp],
+            codes: [refusal, kind, plan.intent, maker, model, mark, curve, cicp],
             free: [plan.gamma, plan.white[0], plan.white[1]],
             chad: plan.chad,
             columns: plan.columns,
@@ -76,19 +77,19 @@ impl Reading {
 
 /// The bytes of a lent record before a call, and how many the struct of C has.
 const UNTOUCHED: u8 = 0xa5;
-const RECORD: usize = 484;
+const RECORD: usize = 488;
 
 impl Reading {
     /// What the call from C leaves in a record of so many bytes, and its answer.
     fn record_due(&self, length: usize) -> (u32, Vec<u8>) {
         let mut record = vec![UNTOUCHED; length];
-        let [refusal, kind, intent, maker, model, curve, cicp] = self.codes;
+        let [refusal, kind, intent, maker, model, mark, curve, cicp] = self.codes;
         if refusal != 0 || length < RECORD {
             return (if refusal != 0 { refusal } else { 9 }, record);
         }
         let [gamma, white_x, white_z] = self.free.map(i32::cast_unsigned);
         let first = [
-            kind, intent, maker, model, curve, gamma, cicp, white_x, white_z,
+            kind, intent, maker, model, mark, curve, gamma, cicp, white_x, white_z,
         ];
         let nines = self.chad.iter().chain(&self.columns);
         let numbers = first
@@ -121,16 +122,22 @@ fn record_differs(file: &[u8], due: &Reading) -> Option<String> {
     None
 }
 
-/// Tries the cases and random files in turn, then random files only.
+/// Tries the cases and random files in turn, then random files only; each that is accepted also
+/// under other ids.
 pub fn reader(run: &mut Run) {
     let mut random = Random::new(run.seed);
     let mut cases = profile_cases::cases(&mut random).into_iter();
-    let mut met = Met::default();
+    let mut apart = random.apart();
+    let (mut met, mut other_ids) = (Met::default(), Met::default());
     let mut progress = Progress::new("reader", run.count);
     for tried in 0..run.count {
         let case = if tried % 2 == 0 { cases.next() } else { None };
         let file = case.unwrap_or_else(|| damage::file(&mut random));
-        trial(run, &file, &mut met);
+        if trial(run, &file, &mut met) {
+            for file in under_other_ids(&mut apart, &file) {
+                trial(run, &file, &mut other_ids);
+            }
+        }
         progress.at(tried + 1, run.differences);
     }
     let left = cases.count();
@@ -138,7 +145,7 @@ pub fn reader(run: &mut Run) {
         println!("reader: {left} of the cases were not tried, COUNT is too small for them");
     }
     println!(
-        "reader: {} files, {} differences ({met})",
+        "reader: {} files, {} differences ({met}; under other ids {other_ids})",
         run.count, run.differences
     );
     if run.count >= ENOUGH && met.lacks_one() {
@@ -202,10 +209,40 @@ fn with_our_headers(bytes: &[u8], random: &mut Random) -> Vec<Vec<u8>> {
     all
 }
 
-/// One file: the reader's whole answer, and the finder's.
-fn trial(run: &mut Run, file: &[u8], met: &mut Met) {
+/// The file with the right id, with zeros in its place, and with each of these two but for one bit.
+/// Of the four the file itself is left out.
+fn under_other_ids(random: &mut Random, file: &[u8]) -> impl Iterator<Item = Vec<u8>> {
+    let [mut right, mut zeros] = [file; 2].map(<[u8]>::to_vec);
+    set_id(&mut right);
+    zero_id(&mut zeros);
+    let near = [&right, &zeros].map(|file| {
+        let mut changed = file.clone();
+        change_id(&mut changed, random.below(128) as usize);
+        changed
+    });
+    let all = [right, zeros].into_iter().chain(near);
+    all.filter(move |other| other != file)
+}
+
+/// The judge's answer. It must be the one under the right id but for the mark or 28, and its plan must
+/// lay out to the file.
+fn judged(file: &[u8]) -> Result<Plan, u32> {
     let answer = reader::read(file);
-    met.add(&answer);
+    let mut right = file.to_vec();
+    set_id(&mut right);
+    let due = match reader::read(&right) {
+        Ok(_) if right != file && file[84..100] != [0; 16] => Err(28),
+        Ok(plan) if right != file => Ok(Plan {
+            id_not_computed: true,
+            ..plan
+        }),
+        same => same,
+    };
+    assert!(
+        answer == due,
+        "the judge: {answer:?}, not {due:?}, of {}",
+        hex(file)
+    );
     if let Ok(plan) = &answer {
         let laid_out = Sheet::of(plan).bytes();
         assert!(
@@ -214,6 +251,13 @@ fn trial(run: &mut Run, file: &[u8], met: &mut Met) {
             hex(file)
         );
     }
+    answer
+}
+
+/// One file: the reader's whole answer, and the finder's. Says whether the file is accepted.
+fn trial(run: &mut Run, file: &[u8], met: &mut Met) -> bool {
+    let answer = judged(file);
+    met.add(&answer);
     let mut differences = Vec::new();
     let (expected, found) = (Reading::due(&answer), port::read(file));
     if expected != found {
@@ -247,6 +291,7 @@ fn trial(run: &mut Run, file: &[u8], met: &mut Met) {
             println!("file {}\n{difference}", hex(file));
         }
     }
+    answer.is_ok()
 }
 
 /// The signatures to ask for: of an accepted file all, of a refused one three that its table may
@@ -261,13 +306,15 @@ fn asked(file: &[u8], accepted: bool) -> Vec<[u8; 4]> {
     [*b"cprt", *b"rTRC"].into_iter().chain(first).collect()
 }
 
-/// How often each answer was due.
+/// How often each answer was due. What never was is not printed.
 #[derive(Default)]
 struct Met {
     /// Accepted, and refused by 21 to 28.
     answers: [u64; 9],
     /// Of the accepted files, those whose maker or model is not zero.
     devices: u64,
+    /// And those whose id is not computed.
+    marks: u64,
 }
 
 impl Met {
@@ -276,23 +323,25 @@ impl Met {
         self.answers[number] += 1;
         let device = |plan: &Plan| plan.device != Device::default();
         self.devices += u64::from(answer.as_ref().is_ok_and(device));
+        self.marks += u64::from(answer.as_ref().is_ok_and(|plan| plan.id_not_computed));
     }
 
     fn lacks_one(&self) -> bool {
-        let zeros = self.answers[0] - self.devices;
-        self.answers.contains(&0) || self.devices == 0 || zeros == 0
+        let both = |some: u64| (1..self.answers[0]).contains(&some);
+        self.answers.contains(&0) || !both(self.devices) || !both(self.marks)
     }
 }
 
 impl Display for Met {
     fn fmt(&self, f: &mut Formatter<'_>) -> Printed {
         let [accepted, refused @ ..] = &self.answers;
-        let devices = self.devices;
+        let Self { devices, marks, .. } = self;
         write!(
             f,
-            "{accepted} accepted, of these {devices} with a maker or model"
+            "{accepted} accepted, of these {devices} with a maker or model and {marks} with the mark"
         )?;
-        for (number, times) in (21..).zip(refused) {
+        let occurred = (21..).zip(refused).filter(|(_, times)| **times > 0);
+        for (number, times) in occurred {
             write!(f, ", {times} refused {number}")?;
         }
         Ok(())

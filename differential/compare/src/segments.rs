@@ -6,6 +6,7 @@ use std::fmt::{Display, Formatter, Result as Printed};
 use judge::inputs::Random;
 use judge::inputs::segments::{self as inputs, FAULTS, Fault, File, Files, LARGEST_ROOM, LONGEST};
 use judge::list::hex;
+use judge::profiles::zero_id;
 use judge::progress::Progress;
 use judge::segments::{self, FRONT, MOST_DATA};
 use judge::{answer, bench, reader};
@@ -36,14 +37,19 @@ pub fn segments(run: &mut Run) {
 
 // ---- the parts
 
-/// Every size for four files; of segments of one of them every byte, length, number and count.
+/// Every size for four files, and for one of them with zeros in place of its id; of segments of the
+/// latter two every byte, of those with an id also every length, number and count.
 fn cases(run: &mut Run, random: &mut Random) -> Result<(), String> {
     let profiles = bench::encodings().map(|(_, encoding)| answer::profile(&encoding));
-    let files = profiles.map(|profile| File::new(profile.expect("these are accepted")));
-    let [.., gray, _] = &files;
-    let changed = around(&gray.bytes);
+    let [srgb, own, gray, xyb] = profiles.map(|profile| profile.expect("these are accepted"));
+    let mut zeros = gray.clone();
+    zero_id(&mut zeros);
+    let files = [srgb, own, gray, xyb, zeros].map(File::new);
+    let [.., gray, _, zeros] = &files;
+    let changed = [gray, zeros].map(|file| (file, around(&file.bytes)));
     let sizes: usize = files.iter().map(|file| file.bytes.len() + 8).sum();
-    let count = 3 * sizes + changed.len() + 3 * 65_536;
+    let changes: usize = changed.iter().map(|(_, all)| all.len()).sum();
+    let count = 3 * sizes + changes + 3 * 65_536;
     let mut part = Part::new("segments, cases", count, random);
     for file in &files {
         let length = file.bytes.len();
@@ -54,8 +60,10 @@ fn cases(run: &mut Run, random: &mut Random) -> Result<(), String> {
             }
         }
     }
-    for bytes in &changed {
-        part.joined(random, gray, bytes, None, LONGEST)?;
+    for (file, all) in &changed {
+        for bytes in all {
+            part.joined(random, file, bytes, None, LONGEST)?;
+        }
     }
     for value in 0..=u16::MAX {
         for bytes in with_value(&gray.bytes, value) {
@@ -266,7 +274,7 @@ impl Part {
         room: usize,
     ) -> Result<(), String> {
         let due = segments::write(&file.bytes, file.reading, size, room);
-        self.met.written(file.bytes.len(), size, &due);
+        self.met.written(&file.bytes, size, &due);
         let call = |file: &[u8], output: &mut [u8]| port::write_segments(file, size, output);
         let called = self.lent.call(random, &file.bytes, room, &due, call);
         self.next(called, || {
@@ -336,6 +344,8 @@ struct Met {
     read: [u64; 9],
     /// Of these, refused by 22 to 25 and longer than any profile.
     long: [u64; 4],
+    /// Of the accepted files, those with zeros in place of their id.
+    zeros: u64,
     /// Refused by 53: outside the limits, and too many segments.
     sizes: [u64; 2],
     /// Refused by 54, by the fault; at the end without a name for it.
@@ -345,11 +355,12 @@ struct Met {
 }
 
 impl Met {
-    fn written(&mut self, length: usize, size: usize, due: &Result<Vec<u8>, u32>) {
+    fn written(&mut self, file: &[u8], size: usize, due: &Result<Vec<u8>, u32>) {
         let within = (1..=MOST_DATA).contains(&size);
         match due {
             Err(segments::SIZE) => self.sizes[usize::from(within)] += 1,
-            _ => self.both(length, due),
+            Err(number) => self.refused(file.len(), *number),
+            Ok(_) => self.accepted(file),
         }
     }
 
@@ -357,20 +368,24 @@ impl Met {
         let place = FAULTS.iter().position(|(one, _)| Some(*one) == fault);
         match due {
             Err(segments::NO_SEGMENTS) => self.faults[place.unwrap_or(FAULTS.len())] += 1,
-            _ => self.both(length, due),
+            Err(number) => self.refused(length, *number),
+            Ok(file) => self.accepted(file),
         }
     }
 
-    fn both(&mut self, length: usize, due: &Result<Vec<u8>, u32>) {
-        match due {
-            Err(segments::OUTPUT) => self.outputs += 1,
-            Err(number) => {
-                self.read[*number as usize - 20] += 1;
-                if length > LONGEST && (22..=25).contains(number) {
-                    self.long[*number as usize - 22] += 1;
-                }
-            }
-            Ok(_) => self.read[0] += 1,
+    fn accepted(&mut self, file: &[u8]) {
+        self.read[0] += 1;
+        self.zeros += u64::from(file[84..100] == [0; 16]);
+    }
+
+    fn refused(&mut self, length: usize, number: u32) {
+        if number == segments::OUTPUT {
+            self.outputs += 1;
+            return;
+        }
+        self.read[number as usize - 20] += 1;
+        if length > LONGEST && (22..=25).contains(&number) {
+            self.long[number as usize - 22] += 1;
         }
     }
 
@@ -387,14 +402,19 @@ impl Met {
     }
 
     fn lacks_of_both(&self) -> bool {
-        self.read.contains(&0) || self.long.contains(&0) || self.outputs == 0
+        let both = (1..self.read[0]).contains(&self.zeros);
+        self.read.contains(&0) || !both || self.long.contains(&0) || self.outputs == 0
     }
 }
 
 impl Display for Met {
     /// What never occurred is left out.
     fn fmt(&self, f: &mut Formatter<'_>) -> Printed {
-        write!(f, "{} accepted", self.read[0])?;
+        write!(
+            f,
+            "{} accepted, of these {} with a zero id",
+            self.read[0], self.zeros
+        )?;
         let [outside, many] = self.sizes;
         let no_segments = self.faults.iter().sum();
         let numbers = (21..).map(|number| format!("refused {number}"));

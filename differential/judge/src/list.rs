@@ -3,7 +3,7 @@
 
 use std::fmt::Write;
 
-use crate::encoding::Encoding;
+use crate::encoding::{Device, Encoding};
 use crate::inputs::jobs::Job;
 use crate::inputs::pieces::Colours;
 use crate::leaves::{self, Numbers};
@@ -21,7 +21,7 @@ const UNTOUCHED: u8 = 165;
 
 /// The first line of a list.
 pub fn first_line(seed: u64) -> String {
-    format!("merqyduk vectors, format 3, seed {seed}, jxl-rs {COMMIT}")
+    format!("merqyduk vectors, format 4, seed {seed}, jxl-rs {COMMIT}")
 }
 
 /// The input of a record.
@@ -235,7 +235,8 @@ fn read(file: &[u8]) -> Vec<String> {
     ]);
     let numbers = plan.chad.iter().chain(&plan.columns);
     fields.extend(numbers.map(|number| word(*number as u32)));
-    fields.extend(words(&[plan.device.maker, plan.device.model]));
+    let Device { maker, model } = plan.device;
+    fields.extend(words(&[maker, model, plan.id_not_computed.into()]));
     fields.push(hex(&plan.text));
     fields
 }

@@ -23,6 +23,7 @@ pub struct Tag {
 pub struct Sheet {
     pub header: Vec<u8>,
     pub tags: Vec<Tag>,
+    pub id_not_computed: bool,
 }
 
 /// The headers that the original writes, by kind.
@@ -51,11 +52,13 @@ impl Sheet {
         header[48..52].copy_from_slice(&plan.device.maker.to_be_bytes());
         header[52..56].copy_from_slice(&plan.device.model.to_be_bytes());
         header[64..68].copy_from_slice(&plan.intent.to_be_bytes());
+        let id_not_computed = plan.id_not_computed;
         let mut tags = Vec::new();
         if plan.kind == XYB {
             return Self {
                 header,
                 tags: xyb_tags(),
+                id_not_computed,
             };
         }
         let letters: Vec<u16> = plan.text.iter().copied().map(u16::from).collect();
@@ -68,10 +71,14 @@ impl Sheet {
         } else {
             rgb_tags(plan, &mut tags);
         }
-        Self { header, tags }
+        Self {
+            header,
+            tags,
+            id_not_computed,
+        }
     }
 
-    /// The file, with its size and id.
+    /// The file, with its size and its id or zeros in place of it.
     pub fn bytes(&self) -> Vec<u8> {
         let mut file = self.header.clone();
         file.extend((self.tags.len() as u32).to_be_bytes());
@@ -91,7 +98,10 @@ impl Sheet {
         }
         file.extend(elements);
         set_size(&mut file);
-        set_id(&mut file);
+        match self.id_not_computed {
+            true => zero_id(&mut file),
+            false => set_id(&mut file),
+        }
         file
     }
 }
@@ -109,6 +119,20 @@ pub fn set_id(file: &mut [u8]) {
     if file.len() >= 100 {
         let id = id(file);
         file[84..100].copy_from_slice(&id);
+    }
+}
+
+/// Puts zeros in place of the id, where there is room for one.
+pub fn zero_id(file: &mut [u8]) {
+    if let Some(id) = file.get_mut(84..100) {
+        id.fill(0);
+    }
+}
+
+/// Changes one of the 128 bits of the id, where there is room for it.
+pub fn change_id(file: &mut [u8], bit: usize) {
+    if let Some(byte) = file.get_mut(84 + bit / 8) {
+        *byte ^= 0x80 >> (bit % 8);
     }
 }
 

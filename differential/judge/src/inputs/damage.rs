@@ -3,11 +3,14 @@
 use super::plans::{self, ENDS, NAMED, PRIMARIES};
 use super::random::Random;
 use super::{below, byte, devices};
-use crate::profiles::{self, Sheet, Tag, cicp, header, parametric, set_id, set_size};
+use crate::profiles::{
+    self, Sheet, Tag, change_id, cicp, header, parametric, set_id, set_size, zero_id,
+};
 use crate::reader::Plan;
 
 /// A file for the reader: three in ten are whole, the others have faults, one or several. In half of
-/// them the id is made anew after the faults.
+/// them the id is made anew after the faults; in one of 24 a bit of it is changed; in some zeros take
+/// its place.
 pub fn file(random: &mut Random) -> Vec<u8> {
     let plan = match random.below(3) {
         0 => Plan {
@@ -31,17 +34,20 @@ pub fn file(random: &mut Random) -> Vec<u8> {
     for _ in 0..in_bytes {
         bytes(random, &mut file);
     }
+    let mut apart = random.apart();
     match random.below(24) {
-        0 => zero_id(&mut file),
+        0 => change_id(&mut file, below(&mut apart, 128)),
         1..12 => {}
         _ => set_id(&mut file),
     }
+    zero_some(random, &mut file);
     file
 }
 
-pub fn zero_id(file: &mut [u8]) {
-    if let Some(id) = file.get_mut(84..100) {
-        id.fill(0);
+/// One file in four gets zeros in place of its id.
+pub fn zero_some(random: &Random, file: &mut [u8]) {
+    if random.apart().below(4) == 0 {
+        zero_id(file);
     }
 }
 

@@ -1,12 +1,12 @@
 //! Damaged profiles in order: every byte, every length, every field of one profile of each shape.
 
-use super::damage::{get, length_fields, put, zero_id};
+use super::damage::{get, length_fields, put};
 use super::devices;
 use super::plans::{self, ENDS, NAMED, PRIMARIES};
 use super::random::Random;
 use crate::encoding::{Device, Encoding, GAMMA, GRAY, RGB, White, XYB};
 use crate::inputs::encodings::SRGB;
-use crate::profiles::{self, Sheet, cicp, set_id, set_size};
+use crate::profiles::{self, Sheet, change_id, cicp, set_id, set_size, zero_id};
 use crate::reader::Plan;
 use crate::{answer, reader};
 
@@ -25,14 +25,28 @@ const DEVICE: Device = Device {
     model: 0xff80_017f,
 };
 
-/// All cases, with maker and model zero, and the same files again with others. Numbers and texts
-/// follow from the seed.
+/// All cases, with maker and model zero, and the same files again with others. After each file whose
+/// id is right comes the same with zeros in place of the id. Numbers and texts follow from the seed.
 pub fn cases(random: &mut Random) -> Vec<Vec<u8>> {
     let mut again = random.clone();
     let mut files = Vec::new();
     cases_of(random, Device::default(), &mut files);
     cases_of(&mut again, DEVICE, &mut files);
-    files
+    let with_zeros = |file: Vec<u8>| {
+        let zeros = id_is_right(&file).then(|| without_id(&file));
+        std::iter::once(file).chain(zeros)
+    };
+    files.into_iter().flat_map(with_zeros).collect()
+}
+
+fn id_is_right(file: &[u8]) -> bool {
+    file.len() >= 100 && file[84..100] == reader::id(file)
+}
+
+fn without_id(file: &[u8]) -> Vec<u8> {
+    let mut file = file.to_vec();
+    zero_id(&mut file);
+    file
 }
 
 fn cases_of(random: &mut Random, device: Device, files: &mut Vec<Vec<u8>>) {
@@ -45,6 +59,7 @@ fn cases_of(random: &mut Random, device: Device, files: &mut Vec<Vec<u8>>) {
         length_fields_changed(&file, files);
         lines_exchanged(&file, files);
         headers(&file, files);
+        ids(&file, files);
         if letters > 0 {
             text_lengths(random, &plan, files);
             free_numbers(&plan, files);
@@ -129,7 +144,7 @@ fn lines_exchanged(file: &[u8], files: &mut Vec<Vec<u8>>) {
     }
 }
 
-/// Makers and models, intents, classes and spaces, and ids that are zero.
+/// Makers and models, intents, classes and spaces.
 fn headers(file: &[u8], files: &mut Vec<Vec<u8>>) {
     for device in devices::cases() {
         let mut changed = file.to_vec();
@@ -163,9 +178,16 @@ fn headers(file: &[u8], files: &mut Vec<Vec<u8>>) {
             with_both_ids(changed, files);
         }
     }
-    let mut changed = file.to_vec();
-    zero_id(&mut changed);
-    files.push(changed);
+}
+
+/// Each bit of the id changed, and each set where zeros stand in its place.
+fn ids(file: &[u8], files: &mut Vec<Vec<u8>>) {
+    for bit in 0..128 {
+        for mut changed in [file.to_vec(), without_id(file)] {
+            change_id(&mut changed, bit);
+            files.push(changed);
+        }
+    }
 }
 
 /// Texts of 0 to 374 letters with all that follows from their length; and a letter past 127.

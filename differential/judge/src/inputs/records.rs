@@ -4,11 +4,12 @@
 use super::jobs::Source;
 use super::random::Random;
 use super::{below, damage, encodings, floats, job_cases, pieces, plans, profile_cases};
-use crate::encoding::Encoding;
+use crate::answer;
+use crate::encoding::{Encoding, GRAY, RGB, XYB};
 use crate::examples::{self, RFC_1321, Run};
 use crate::list::{Input, Record, hex, word};
-use crate::profiles::Sheet;
-use crate::{answer, reader};
+use crate::profiles::{Sheet, change_id};
+use crate::reader::{self, LARGEST, Plan};
 
 /// The longest output that a record lends: no profile is as long.
 const ROOM: u32 = 1300;
@@ -41,6 +42,7 @@ pub fn all(seed: u64) -> Vec<Record> {
             .collect(),
     ));
     all.extend(infinite_gammas());
+    all.extend(ids(&mut random.apart()));
     all.extend(plain(files(random).into_iter().map(Input::File).collect()));
     all.extend(job_examples());
     all.extend(plain(jobs(random).into_iter().map(Input::Job).collect()));
@@ -83,6 +85,47 @@ fn infinite_gammas() -> Vec<Record> {
         given: vec![(4, word(0))],
     };
     examples::infinite_gammas().map(one).into()
+}
+
+/// Zeros in place of the id of each kind, two other ids, and zeros beside elements that are refused.
+/// The mark, field 29, and the refusals are given by 02 and 01.
+fn ids(random: &mut Random) -> [Record; 7] {
+    let [gray, rgb, xyb] = [GRAY, RGB, XYB].map(|kind| Plan {
+        id_not_computed: true,
+        ..plans::of_shape(random, kind, 12, false, kind == RGB)
+    });
+    let with_id = Plan {
+        id_not_computed: false,
+        ..rgb.clone()
+    };
+    let letter = Plan {
+        text: vec![128],
+        ..gray.clone()
+    };
+    let number = Plan {
+        white: [0, LARGEST + 1],
+        ..gray.clone()
+    };
+    let all = [
+        (gray, 0),
+        (rgb.clone(), 0),
+        (xyb, 0),
+        (with_id, 28),
+        (rgb, 28),
+        (letter, 26),
+        (number, 27),
+    ];
+    all.map(|(plan, refusal)| {
+        let mut file = Sheet::of(&plan).bytes();
+        if refusal == 28 {
+            change_id(&mut file, below(random, 128));
+        }
+        let mark = u32::from(refusal == 0);
+        Record {
+            input: Input::File(file),
+            given: vec![(0, word(refusal)), (29, word(mark))],
+        }
+    })
 }
 
 /// The empty job, and the job of 01 with the listing that 01 prints.
@@ -131,10 +174,10 @@ fn files(random: &mut Random) -> Vec<Vec<u8>> {
         let places: Vec<usize> = (0..cases.len())
             .filter(|at| numbers[*at] == wanted)
             .collect();
-        let step = places.len().div_ceil(10).max(1);
-        let offset = below(random, step);
-        let some = places.iter().skip(offset).step_by(step);
-        all.extend(some.map(|at| cases[*at].clone()));
+        // Any of each part: at a fixed distance the ids could all be of one sort.
+        let parts = places.chunks(places.len().div_ceil(10).max(1));
+        let mut own = Random::new(random.bits64());
+        all.extend(parts.map(|part| cases[own.pick(part)].clone()));
     }
     all.extend((0..50).map(|_| damage::file(random)));
     all

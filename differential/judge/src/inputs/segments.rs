@@ -78,8 +78,15 @@ pub fn bytes(random: &mut Random, limit: usize) -> Vec<u8> {
     (0..count).map(|_| byte(random)).collect()
 }
 
-/// A file that the reader accepts; half are written by the original for encodings at random.
+/// A file that the reader accepts; half are written by the original for encodings at random. In some
+/// zeros take the place of the id.
 pub fn accepted(random: &mut Random) -> Vec<u8> {
+    let mut file = with_id(random);
+    damage::zero_some(random, &mut file);
+    file
+}
+
+fn with_id(random: &mut Random) -> Vec<u8> {
     match random.below(16) {
         0..3 => Sheet::of(&plans::plan(random)).bytes(),
         3 => about_255(random),

@@ -99,7 +99,7 @@ impl<'a> Rest<'a> {
     }
 }
 
-/// The plan of the elements, maker, model and intent left out, or None where refusal 26 is due.
+/// The plan of the elements, what the header holds left out, or None where refusal 26 is due.
 pub fn read(file: &[u8], kind: u8, table: &Table) -> Option<Plan> {
     let mut rest = Rest(&file[132 + 12 * word(file, 128) as usize..]);
     match kind {

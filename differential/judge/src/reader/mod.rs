@@ -17,13 +17,15 @@ use tables::Table;
 pub const LARGEST: i32 = 2_147_483_264;
 
 /// A plan. Kinds and curves are numbered as in the job, `cicp` is its primaries value; what a plan
-/// lacks is zero. XYB has maker and model and no other free part, so all but these and its kind is
-/// zero.
+/// lacks is zero. XYB has maker, model and the mark and no other free part, so all but these and its
+/// kind is zero.
 #[derive(Clone, Debug, Default, PartialEq, Eq)]
 pub struct Plan {
     pub kind: u8,
     pub intent: u32,
     pub device: Device,
+    /// The mark: sixteen zero bytes stand in place of the id.
+    pub id_not_computed: bool,
     pub curve: u8,
     pub gamma: i32,
     pub cicp: u8,
@@ -65,10 +67,15 @@ pub fn read(file: &[u8]) -> Result<Plan, u32> {
     if plan.numbers().any(|number| !in_range(number)) {
         return Err(27);
     }
-    if file[84..100] != id(file) {
-        return Err(28);
-    }
+    plan.id_not_computed = mark(&file[84..100], id(file)).ok_or(28u32)?;
     Ok(plan)
+}
+
+/// Whether an id is not computed, or None where it is wrong. The right one is tried first, so that
+/// zeros have no mark where they are the right one.
+fn mark(found: &[u8], right: [u8; 16]) -> Option<bool> {
+    let computed = found == right;
+    (computed || found == [0; 16]).then_some(!computed)
 }
 
 fn in_range(number: i32) -> bool {
