@@ -2,13 +2,14 @@
 -- output of `maybe_create_profile`. `layout` is what a plan lays out to, `told` the plan that the reader's struct tells, `readingBy` the struct that a
 -- C struct's bytes tell. Assumes nothing.
 use Prim.Native.Nat.{ℕ, _≤_}
-use mathlib.Core.Path.{_≡_, sym, ap}
+use mathlib.Core.Path.{_≡_, sym, ap, subst}
 use mathlib.Core.Logic.{_↔_}
 use mathlib.Core.Bool.{false}
 use mathlib.Core.List.{List}
 use lib.ListN.{length, take}
 use Rattle.buffer.specs.Checked.{is, refused}
 use Rattle.profile.specs.Plan.{Plan}
+use Rattle.profile.specs.PlanLaws.{unmarked}
 use Rattle.profile.specs.Shape.{minLength, maxLength}
 use Rattle.profile.specs.Layout.{layout}
 use Rattle.encoding_plan.specs.FixedFloats.{fixedFloats}
@@ -96,7 +97,8 @@ pub written : (e : Encoding) (n : ℕ) {k : ℕ} (before after : List ℕ) → C
 written e n before after w =
     let p = front-of (fixedFloats (e .color)) (encodingPlan e) before after (w .writes .answer) (w .writes .output) in
     let computed = never-marked e (p .1) in
-    let exists : Exists (p .0) = computed-exists (p .0) computed (encoding-plan-valid e (w .held) (w .maker) (w .model) (p .1)) in
+    let exists : Exists (p .0) =
+    subst Exists (unmarked (p .0) computed) (computed-exists (p .0) (encoding-plan-valid e (w .held) (w .maker) (w .model) (p .1))) in
     let device = from-color e (p .1) .device in
     record {
       plan = p .0;

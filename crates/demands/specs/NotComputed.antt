@@ -2,7 +2,7 @@
 -- what the finder finds in them, and that written files are read as before. (That one plan fits one file, in the case of a computed id of zeros too, is
 -- `one-plan` of Demand3; that the plan of what was written never has the mark is in its WroteItsPlan.) Assumes nothing.
 use Prim.Native.Nat.{ℕ}
-use mathlib.Core.Path.{_≡_, ap, sym, _∙_}
+use mathlib.Core.Path.{_≡_, sym}
 use mathlib.Core.Logic.{_↔_}
 use mathlib.Core.Bool.{true, false}
 use mathlib.Core.List.{List}

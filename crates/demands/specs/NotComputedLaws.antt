@@ -19,7 +19,7 @@ use Rattle.reader_spec.specs.RefusalList.{accepted, refused, c28}
 use Rattle.reader_spec.specs.Read.{read}
 use Rattle.reader_spec.specs.Accepts.{accepts-exactly}
 use Rattle.reader_spec.specs.AcceptsLaws.{reads-correct, reads-zeros, reads-28}
-use Rattle.reader_spec.specs.Finder.{find, elementUnder}
+use Rattle.reader_spec.specs.Finder.{find}
 use Rattle.reader_spec.specs.Finds.{finds}
 use Rattle.reading.specs.Reading.{reading}
 use Rattle.reading.specs.declared.Reading.{Reading}
@@ -98,5 +98,5 @@ pub accepted-as-before : (f : List ℕ) (p : Plan) → p .id-not-computed ≡ fa
 accepted-as-before f p e =
     let computed : layout p ≡ withId (computedId p) p = ap layout (sym (unmarked p e)) ∙ layout-computed p in (
       λ h. let l = accepts-exactly f p .0 h in (l .0 .valid, sym computed ∙ l .1),
-      λ h. accepts-exactly f p .1 (computed-exists p e (h .0), computed ∙ h .1),
+      λ h. accepts-exactly f p .1 (subst Exists (unmarked p e) (computed-exists p (h .0)), computed ∙ h .1),
     )

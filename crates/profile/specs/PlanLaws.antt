@@ -61,11 +61,10 @@ slots-shape p h = go (p .intent) (p .content) h
 
 -- ---- a plan in code
 
--- a plan without the mark
 pub unmarked : (p : Plan.Plan) → p .id-not-computed ≡ false → withMark false p ≡ p
 unmarked p e = λ j. withMark (sym e j) p
 
--- is what its numbers and its text make
+-- a plan, its mark aside, is what its numbers and its text make
 pub plan-of-numbers : (p : Plan.Plan) → planOf (numbersOf p) (textOf p) ≡ withMark false p
 plan-of-numbers p = go (p .intent) (p .content)
   where

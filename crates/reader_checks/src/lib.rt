@@ -66,6 +66,7 @@ pub fn plan_answer(file: &[u8], plan: Numbers, text: &[u8]) -> PlanAnswer
     if !plan_checks::numbers_in_range(plan) {
         return refused(OUT_OF_RANGE);
     }
+    // Zeros mean not computed only where they are not the correct id, so this one is tried first.
     let zeros = comparisons::id_is_zeros(file);
     if found.id {
         return accepted(0);

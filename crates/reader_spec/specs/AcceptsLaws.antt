@@ -1,7 +1,7 @@
 -- That an accepted file is its plan's layout, what the reader answers to a plan's file under any id, and that each byte of a plan's layout has one owner.
 -- Assumes nothing.
 use Prim.Native.Nat.{ℕ, _+_, _≤_}
-use mathlib.Core.Path.{_≡_, refl, ap, sym, _∙_, subst}
+use mathlib.Core.Path.{_≡_, ap, sym, _∙_, subst}
 use mathlib.Core.Logic.{⊎-elim}
 use mathlib.Core.Bool.{Bool, true, false}
 use mathlib.Core.List.{List, [], _∷_, _++_}
@@ -16,11 +16,11 @@ use Rattle.profile.specs.declared.Kind.{Kind}
 use Rattle.profile.specs.declared.Kind.the-variants.{Gray, Rgb, Xyb}
 use Rattle.profile.specs.PlanLaws.{good-nines, slots-shape}
 use Rattle.profile.specs.Layout.{elements, withId, computedId, layout}
-use Rattle.profile.specs.LayoutLaws.{length-idFor, any-id, mark-id, layout-computed, layout-marked}
+use Rattle.profile.specs.LayoutLaws.{length-idFor, any-id, layout-computed, layout-marked}
 use Rattle.profile.specs.Shape.{shape, slotsFor, slotsOf, one, sized, mlucSize, curveSize, cicpSlot}
 use Rattle.profile.specs.declared.Shape.{Shape}
 use Rattle.reader_spec.specs.Exists.{Exists}
-use Rattle.reader_spec.specs.FileLaws.{fours, small, header-128, varying-withId, mark-valid, computed-exists}
+use Rattle.reader_spec.specs.FileLaws.{fours, small, header-128, varying-withId, computed-exists, marked-exists}
 use Rattle.reader_spec.specs.Table.{varyingOf}
 use Rattle.reader_spec.specs.RefusalList.{Answer, Answers, Check, FirstFailing, Ok28, Passed, accepted, accepts, c28, refused, refuses}
 use Rattle.reader_spec.specs.RefusalListLaws.{answer-unique, passes-before}
@@ -50,13 +50,13 @@ module _ (p : Plan) (v : Valid p) (d : List ℕ) (sixteen : length d ≡ 16) whe
   pub reads-correct : d ≡ computedId p → read (withId d p) ≡ accepted (withMark false p)
   reads-correct e =
       laid-out-accepted (withId d p) (withMark false p)
-      (computed-exists (withMark false p) refl (mark-valid false p v), layout-computed p ∙ ap (λ x. withId x p) (sym e))
+      (computed-exists p v, layout-computed p ∙ ap (λ x. withId x p) (sym e))
 
   module _ (other : ¬ (d ≡ computedId p)) where
     pub reads-zeros : d ≡ zeros 16 → read (withId d p) ≡ accepted (withMark true p)
     reads-zeros e =
         laid-out-accepted (withId d p) (withMark true p)
-        (record { valid = mark-valid true p v; mark = λ m z. other (e ∙ sym (sym (mark-id true p) ∙ z)) }, layout-marked p ∙ ap (λ x. withId x p) (sym e))
+        (marked-exists p v (λ z. other (e ∙ sym z)), layout-marked p ∙ ap (λ x. withId x p) (sym e))
 
     pub reads-28 : ¬ (d ≡ zeros 16) → read (withId d p) ≡ refused c28
     reads-28 nonzero =

@@ -247,13 +247,14 @@ valid-wide p v = record { intent = v .intent; maker = v .maker; model = v .model
 
 -- ---- the mark, and that no two plans share a file
 
--- a plan is one with the mark and without it, but for the id
 pub mark-valid : (m : Bool) (p : Plan) → Valid p → Valid (withMark m p)
 mark-valid m p v = record { intent = v .intent; maker = v .maker; model = v .model; content = v .content }
 
--- without it, it exists
-pub computed-exists : (p : Plan) → p .id-not-computed ≡ false → Valid p → Exists p
-computed-exists p e v = record { valid = v; mark = λ m z. absurd (true≢false (sym m ∙ e)) }
+pub computed-exists : (p : Plan) → Valid p → Exists (withMark false p)
+computed-exists p v = record { valid = mark-valid false p v; mark = λ e z. absurd (true≢false (sym e)) }
+
+pub marked-exists : (p : Plan) → Valid p → ¬ (computedId p ≡ zeros 16) → Exists (withMark true p)
+marked-exists p v h = record { valid = mark-valid true p v; mark = λ e z. absurd (h (sym (mark-id true p) ∙ z)) }
 
 -- the mark is told by what stands in place of the id: the plan with it exists only where the computed id is not itself zero
 same-mark : (a b : Bool) (id : List ℕ) → (a ≡ true → ¬ (id ≡ zeros 16)) → (b ≡ true → ¬ (id ≡ zeros 16))

@@ -13,7 +13,6 @@ use Rattle.profile.specs.Plan.{Plan, withMark, kind, GoodContent, GoodIntent, I
 use Rattle.profile.specs.declared.Kind.{Kind}
 use Rattle.profile.specs.PlanLaws.{good-nines, good-shape, slots-shape}
 use Rattle.profile.specs.Layout.{elements, slots, profileId, computedId, layout}
-use Rattle.profile.specs.LayoutLaws.{mark-id}
 use Rattle.profile.specs.Shape.{shape}
 use Rattle.profile.specs.declared.Shape.{Shape}
 use Rattle.reader_spec.specs.Exists.{Exists}
@@ -21,7 +20,7 @@ use Rattle.reader_spec.specs.Table.{varyingOf, bodyOf, entriesOf}
 use Rattle.reader_spec.specs.TableLaws.{entries-are}
 use Rattle.reader_spec.specs.PlanIn.{kindFrom, shapeFrom, shapeIn, elementIn, planIn}
 use Rattle.reader_spec.specs.PlanInLaws.{content-kind, shape-back, shape-kind}
-use Rattle.reader_spec.specs.FileLaws.{header-kind, fours, small, valid-wide, mark-valid, computed-exists}
+use Rattle.reader_spec.specs.FileLaws.{header-kind, fours, small, valid-wide, computed-exists, marked-exists}
 use Rattle.reader_spec.specs.ShapesLaws.{plain, plain-valid, plain-kind, plain-slots}
 use Rattle.reader_spec.specs.RefusalList
 use Rattle.reader_spec.specs.RefusalListLaws.{after-header, header-device, regions, has-plan-in, has-id, has-computed, has-zeros}
@@ -132,15 +131,15 @@ module _ (f : List ℕ) (ok21 : RefusalList.Ok21 f) where
       computed e =
           let p = a .plan in
           rw (plan-is (wide-27 a))
-          (all-pass (withMark false p) (computed-exists (withMark false p) refl (mark-valid false p (a .valid))) (has-computed f ok21 ok22 p (valid-wide p (a .valid)) (a .has) e))
+          (all-pass (withMark false p) (computed-exists p (a .valid)) (has-computed f ok21 ok22 p (valid-wide p (a .valid)) (a .has) e))
 
       not-computed : ¬ (varyingOf f .id ≡ profileId f) → varyingOf f .id ≡ zeros 16 → From f [] (RefusalList.accepted (withMark true (planIn f)))
       not-computed h e =
           let p = a .plan in
           let w = valid-wide p (a .valid) in
-          let nonzero : ¬ (computedId (withMark true p) ≡ zeros 16) = λ z. h (e ∙ sym (has-id f ok21 ok22 p w (a .has) ∙ sym (mark-id true p) ∙ z)) in
+          let nonzero : ¬ (computedId p ≡ zeros 16) = λ z. h (e ∙ sym (has-id f ok21 ok22 p w (a .has) ∙ z)) in
           rw (plan-is (wide-27 a))
-          (all-pass (withMark true p) (record { valid = mark-valid true p (a .valid); mark = λ m. nonzero }) (has-zeros f ok21 ok22 p w (a .has) e))
+          (all-pass (withMark true p) (marked-exists p (a .valid) nonzero) (has-zeros f ok21 ok22 p w (a .has) e))
 
     -- ---- from each check on
 
