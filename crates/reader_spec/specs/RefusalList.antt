@@ -35,7 +35,7 @@ pub record Ok24 (f : List ℕ) : Type 0 where
   pub header : Header kind f
   pub intent : GoodIntent kind (varyingOf f .intent)
 
--- some plan of this class and space gives this tag table and length
+-- some plan of this class and space gives this tag table and length. Here and in 26 and 27 its mark is left aside: it changes nothing but the id
 pub record Ok25 (f : List ℕ) : Type 0 where
   pub plan : Plan
   pub valid : Valid plan

@@ -75,6 +75,27 @@ impl Reading {
     }
 }
 
+/// The answers to a file that was written: as it is, with zeros in place of its id, and with one bit of
+/// the id and of the zeros changed. Those that are due, which follow from the plan of the first: that
+/// plan, the same with the mark, and 28 twice; and those of the port.
+pub fn of_written(file: &[u8], bit: usize) -> [[Reading; 4]; 2] {
+    let mut zeros = file.to_vec();
+    zero_id(&mut zeros);
+    let [near, near_zeros] = [file, &zeros].map(|from| {
+        let mut changed = from.to_vec();
+        change_id(&mut changed, bit);
+        changed
+    });
+    let found = [file, &zeros, &near, &near_zeros].map(port::read);
+    let [read, marked] = [0, 1].map(|mark| {
+        let mut reading = found[0].clone();
+        (reading.codes[0], reading.codes[5]) = (0, mark);
+        reading
+    });
+    let refused = Reading::due(&Err(28));
+    [[read, marked, refused.clone(), refused], found]
+}
+
 /// The bytes of a lent record before a call, and how many the struct of C has.
 const UNTOUCHED: u8 = 0xa5;
 const RECORD: usize = 488;

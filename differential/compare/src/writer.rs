@@ -1,5 +1,6 @@
 //! The writer against the original: with maker and model zero, where its files are the original's, and
-//! with others, where they are these with the eight bytes changed and the id that is then due.
+//! with others, where they are these with the eight bytes changed and the id that is then due. Each file
+//! that is written is read, also without its id and under other ids.
 
 use std::collections::BTreeMap;
 use std::fmt::{Display, Formatter, Result as Printed};
@@ -8,7 +9,7 @@ use judge::answer;
 use judge::encoding::{Encoding, GRAY, RGB, XYB};
 use judge::inputs::{Random, devices, encodings};
 
-use crate::{PART, Run, Tally, port};
+use crate::{PART, Run, Tally, port, reader};
 
 /// From this many encodings on, each answer must have occurred.
 const ENOUGH: usize = 100_000;
@@ -31,6 +32,7 @@ pub fn writer(run: &mut Run) {
             run.count + run.count / BESIDE,
         ),
         met: Met::default(),
+        read: Tally::new("written files read", 2 * run.count + run.count / BESIDE),
     };
     while plain.tried < run.count {
         for (encoding, room) in calls(&mut random, PART.min(run.count - plain.tried)) {
@@ -38,6 +40,7 @@ pub fn writer(run: &mut Run) {
             let call = Call::new(&encoding, room, &profile);
             let found = call.answers();
             plain.add(&(encoding, room), &call.due(), &found);
+            with_device.read_back(&encoding, &found.written);
             with_device.call(&call, &found);
             if plain.tried.is_multiple_of(BESIDE) {
                 with_device.beside(&encoding);
@@ -83,6 +86,13 @@ impl Written {
             Err(number) => number as usize,
         };
         Self { answer, output }
+    }
+
+    /// The file, where one was written: a number below 100 is a refusal.
+    fn file(&self) -> Option<&[u8]> {
+        self.output
+            .get(..self.answer)
+            .filter(|file| file.len() >= 100)
     }
 
     /// What a call of the port gives.
@@ -158,6 +168,8 @@ struct WithDevice {
     random: Random,
     tally: Tally,
     met: Met,
+    /// The files of both ways, each under four ids.
+    read: Tally,
 }
 
 impl WithDevice {
@@ -173,12 +185,21 @@ impl WithDevice {
         let answers = [due.answer; 2];
         let write = |out: &mut [u8]| port::write_device(encoding, device, out) as usize;
         let found = Written::by(write, room);
+        self.read_back(encoding, &found);
         let [dry, ..] = plain.lengths;
         self.tally.add(
             &(encoding, device, room),
             &(due, answers),
             &(found, [plain.written.answer, dry]),
         );
+    }
+
+    /// Reads a file that was written by its id, without it, and with a bit changed, another each time.
+    fn read_back(&mut self, encoding: &Encoding, written: &Written) {
+        if let Some(file) = written.file() {
+            let [due, found] = reader::of_written(file, self.read.tried % 128);
+            self.read.add(encoding, &due, &found);
+        }
     }
 
     /// What the encodings of the comparison have little of: XYB, numbers without meaning, and outputs
@@ -199,9 +220,12 @@ impl WithDevice {
     }
 
     fn finish(self, run: &mut Run) {
-        let Self { tally, met, .. } = self;
+        let Self {
+            tally, met, read, ..
+        } = self;
         println!("{tally} ({met})");
-        run.differences += tally.different;
+        println!("{read}");
+        run.differences += tally.different + read.different;
         if run.count >= ENOUGH && met.lacks_one() {
             println!("{}: an answer never occurred", tally.name);
             run.differences += 1;
