@@ -35,8 +35,8 @@
  * merqyduk_write_gray 1,768, merqyduk_write_rgb 1,888, merqyduk_write_xyb 1,768, merqyduk_length_gray 928,
  * merqyduk_length_rgb 1,088, merqyduk_length_xyb 928, the same with _counted 1,768, 1,888, 1,768, 928, 1,088 and 928,
  * the first three with _device 1,800, 1,904 and 1,768, merqyduk_job 296, merqyduk_job_profile 2,048,
- * merqyduk_read 3,720, merqyduk_find 3,768, merqyduk_parse_description 712, merqyduk_write_segments 3,768,
- * merqyduk_join_segments 6,184. Not counted is the dynamic linker, which takes about 2,600 more where a program's
+ * merqyduk_read 3,736, merqyduk_find 3,800, merqyduk_parse_description 712, merqyduk_write_segments 3,800,
+ * merqyduk_join_segments 6,216. Not counted is the dynamic linker, which takes about 2,600 more where a program's
  * first memcpy is looked up in the call; -Wl,-z,now has it looked up before.
  *
  * Platform: Linux on any x86-64 processor. The calls go by the floating-point environment that a program
