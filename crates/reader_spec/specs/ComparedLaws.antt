@@ -1,7 +1,7 @@
 -- What the reader answers to a file that is compared with the layout of the one plan that it can have. Assumes nothing.
 use Prim.Native.Nat.{ℕ}
 use mathlib.Core.Path.{_≡_, refl, ap, sym, _∙_}
-use mathlib.Core.Bool.{true, false}
+use mathlib.Core.Bool.{Bool, true, false}
 use mathlib.Core.List.{List}
 use lib.ListN.{take, drop}
 use mir.Syntax.{w32}
@@ -10,7 +10,7 @@ use Rattle.buffer.specs.BoolLaws.{true≢false}
 use Rattle.buffer.specs.Bytes.{zeros, same}
 use Rattle.buffer.specs.BytesLaws.{same-if, same-of}
 use Rattle.profile.specs.Elements.{start}
-use Rattle.profile.specs.Plan.{withMark}
+use Rattle.profile.specs.Plan.{Plan, withMark}
 use Rattle.profile.specs.Numbers.{planOf, numbersOf}
 use Rattle.profile.specs.Layout.{slots, profileId, layout}
 use Rattle.profile.specs.Shape.{shape, slotsOf}
@@ -18,7 +18,7 @@ use Rattle.profile.specs.declared.Numbers.{Numbers}
 use Rattle.reader_spec.specs.Table.{varyingOf}
 use Rattle.reader_spec.specs.PlanIn.{planIn}
 use Rattle.reader_spec.specs.FitsLaws.{Bytes}
-use Rattle.reader_spec.specs.RefusalList.{refused, accepted, c26, c27, c28}
+use Rattle.reader_spec.specs.RefusalList.{Answer, refused, accepted, c26, c27, c28}
 use Rattle.reader_spec.specs.Decide.{BodyIs}
 use Rattle.reader_spec.specs.Read.{fromId, fromRange, fromBody}
 use Rattle.reader_spec.specs.Steps.{Candidate}
@@ -26,6 +26,12 @@ use Rattle.reader_spec.specs.StepsLaws.{body-26, body-range, range-27, r
 use Rattle.reader_spec.specs.Tests.{lettersAndCicpGood, numbersInRange}
 use Rattle.reader_spec.specs.TestsLaws.{in-range-content, content-in-range}
 use Rattle.reader_spec.specs.CandidateLaws.{plan-is, shape-is, wrong-letters, content, same-slots, body-if, body-of, id-laid}
+
+-- `byId` by tests
+abbrev pub byTests : Bool → Bool → Plan → Answer
+byTests true zero p = accepted (withMark false p)
+byTests false true p = accepted (withMark true p)
+byTests false false p = refused c28
 
 module _ (f : List ℕ) (p : Numbers) (t : List ℕ) (c : Candidate f p t) where
   -- a letter above 127 or another `cicp` value
@@ -78,21 +84,13 @@ module _ (f : List ℕ) (p : Numbers) (t : List ℕ) (c : Candidate f p t) where
         laid : take 16 (drop 84 (layout (planOf p t))) ≡ profileId f
         laid = ap (λ q. take 16 (drop 84 (layout q))) (plan-is f p t c) ∙ id-laid f p t c bytes good body
 
-        -- the correct id
-        pub by-correct : same (take 16 (drop 84 f)) (take 16 (drop 84 (layout (planOf p t)))) ≡ true → fromBody f ≡ accepted (withMark false (planIn f))
+        other : same (take 16 (drop 84 f)) (take 16 (drop 84 (layout (planOf p t)))) ≡ false → ¬ (take 16 (drop 84 f) ≡ profileId f)
+        other e h = true≢false (sym (same-of (h ∙ sym laid)) ∙ e)
+
+        -- the correct id, zeros that are not, and another id
+        pub by-id : (correct zero : Bool) → same (take 16 (drop 84 f)) (take 16 (drop 84 (layout (planOf p t)))) ≡ correct → same (take 16 (drop 84 f)) (zeros 16) ≡ zero
+            → fromBody f ≡ byTests correct zero (planIn f)
         unfolding varyingOf
-        by-correct e = to-id ∙ id-computed f (same-if _ _ e ∙ laid)
-
-        module _ (wrong : same (take 16 (drop 84 f)) (take 16 (drop 84 (layout (planOf p t)))) ≡ false) where
-          other : ¬ (take 16 (drop 84 f) ≡ profileId f)
-          other h = true≢false (sym (same-of (h ∙ sym laid)) ∙ wrong)
-
-          -- zeros that are not the correct id
-          pub by-zeros : same (take 16 (drop 84 f)) (zeros 16) ≡ true → fromBody f ≡ accepted (withMark true (planIn f))
-          unfolding varyingOf
-          by-zeros e = to-id ∙ id-not-computed f other (same-if _ _ e)
-
-          -- another id
-          pub by-another : same (take 16 (drop 84 f)) (zeros 16) ≡ false → fromBody f ≡ refused c28
-          unfolding varyingOf
-          by-another e = to-id ∙ id-28 f other (λ h. true≢false (sym (same-of h) ∙ e))
+        by-id true zero e z = to-id ∙ id-computed f (same-if _ _ e ∙ laid)
+        by-id false true e z = to-id ∙ id-not-computed f (other e) (same-if _ _ z)
+        by-id false false e z = to-id ∙ id-28 f (other e) (λ h. true≢false (sym (same-of h) ∙ z))

@@ -1,21 +1,23 @@
 -- Each answer is the number of the check that its test makes, or the mark of the plan (`ComparedLaws`).
 use Prim.Native.Nat.{ℕ}
-use mathlib.Core.Path.{_≡_, ap, sym, _∙_}
-use mathlib.Core.Bool.{Bool, true}
+use mathlib.Core.Path.{_≡_, refl, ap, sym, _∙_}
+use mathlib.Core.Bool.{Bool, true, false}
 use mathlib.Core.List.{List}
-use lib.ListN.{take, drop}
+use lib.ListN.{drop}
 use borrow.Author.Needs.{needs}
 use borrow.Author.Tests.{not-true, not-false}
-use Rattle.buffer.specs.Bytes.{zeros, same}
+use Rattle.buffer.specs.Bytes.{same}
 use Rattle.profile.specs.Elements.{start}
 use Rattle.profile.specs.Numbers.{planOf}
 use Rattle.profile.specs.Layout.{layout}
 use Rattle.profile.specs.Shape.{shape, slotsOf}
 use Rattle.profile.specs.declared.Numbers.{Numbers}
 use Rattle.reader_spec.specs.FitsLaws.{Bytes}
+use Rattle.reader_spec.specs.PlanIn.{planIn}
+use Rattle.reader_spec.specs.Read.{fromBody}
 use Rattle.reader_spec.specs.RefusalList.{Answer, refusalNumber, markNumber}
 use Rattle.reader_spec.specs.Tests.{lettersAndCicpGood, numbersInRange}
-use Rattle.reader_spec.specs.ComparedLaws.{by-letters, by-elements, by-range, by-correct, by-zeros, by-another}
+use Rattle.reader_spec.specs.ComparedLaws.{byTests, by-letters, by-elements, by-range, by-id}
 use Rattle.reader_checks.proofs.plan_answer.Statement.{statement}
 use Rattle.reader_checks.proofs.plan_answer.Tie as tie
 
@@ -80,47 +82,30 @@ returns-3 c =
 
 -- the id, where elements and numbers are a plan's
 module _ (c : tie.After-id-is-zeros) where
-  abbrev elements : tie.Else2
-  elements = c .before .before .before
+  abbrev compared : tie.Else2
+  compared = c .before .before .before
 
   abbrev first : tie.Start
-  first = begun (letters elements)
+  first = begun (letters compared)
 
   in-range : numbersInRange (plan first) ≡ true
   in-range = sym (c .before .before .numbers-in-range .ensures) ∙ not-false _ (c .before .if3 .left)
 
-  -- whether it is the one in the layout, and whether it is zeros
-  id-is : {b : Bool} → elements .before .before .compared .result .id ≡ b → same (take 16 (drop 84 (file first))) (take 16 (drop 84 (layout (planOf (plan first) (text first))))) ≡ b
-  id-is e = sym (elements .before .before .compared .ensures .1) ∙ e
-
-  zero-is : {b : Bool} → c .id-is-zeros .result ≡ b → same (take 16 (drop 84 (file first))) (zeros 16) ≡ b
-  zero-is e = sym (c .id-is-zeros .ensures) ∙ e
+  by-both : (correct zero : Bool) → compared .before .before .compared .result .id ≡ correct → c .id-is-zeros .result ≡ zero
+      → fromBody (file first) ≡ byTests correct zero (planIn (file first))
+  by-both correct zero e z =
+      let l = letters compared in
+      by-id (file first) (plan first) (text first) (first .pre) (bytes l) (good l) (same-elements compared) in-range correct zero
+      (sym (compared .before .before .compared .ensures .1) ∙ e) (sym (c .id-is-zeros .ensures) ∙ z)
 
 returns-4 : tie.Need-returns-4
-returns-4 c =
-    let t = c .before in
-    let e = t .before in
-    let s = first e in
-    let l = letters (elements e) in
-    answered (c .accepted .ensures) (by-correct (file s) (plan s) (text s) (s .pre) (bytes l) (good l) (same-elements (elements e)) (in-range e) (id-is e (t .if4 .taken)))
+returns-4 c = let t = c .before in answered (c .accepted .ensures) (by-both (t .before) true _ (t .if4 .taken) refl)
 
 returns-5 : tie.Need-returns-5
-returns-5 c =
-    let t = c .before in
-    let e = t .before .before in
-    let s = first e in
-    let l = letters (elements e) in
-    answered (c .accepted2 .ensures)
-    (by-zeros (file s) (plan s) (text s) (s .pre) (bytes l) (good l) (same-elements (elements e)) (in-range e) (id-is e (t .before .if4 .left)) (zero-is e (t .if5 .taken)))
+returns-5 c = let t = c .before in answered (c .accepted2 .ensures) (by-both (t .before .before) false true (t .before .if4 .left) (t .if5 .taken))
 
 returns-6 : tie.Need-returns-6
-returns-6 c =
-    let t = c .before in
-    let e = t .before .before in
-    let s = first e in
-    let l = letters (elements e) in
-    answered (c .refused4 .ensures)
-    (by-another (file s) (plan s) (text s) (s .pre) (bytes l) (good l) (same-elements (elements e)) (in-range e) (id-is e (t .before .if4 .left)) (zero-is e (t .if5 .left)))
+returns-6 c = let t = c .before in answered (c .refused4 .ensures) (by-both (t .before .before) false false (t .before .if4 .left) (t .if5 .left))
 
 pub plan-answer-spec : {M : Type 1} → statement M
 plan-answer-spec =
