@@ -1,6 +1,6 @@
 -- What the reader answers to a file that is compared with the layout of the one plan that it can have. Assumes nothing.
 use Prim.Native.Nat.{ℕ}
-use mathlib.Core.Path.{_≡_, refl, ap, sym, _∙_}
+use mathlib.Core.Path.{_≡_, refl, ap, ap₂, sym, _∙_}
 use mathlib.Core.Bool.{Bool, true, false}
 use mathlib.Core.List.{List}
 use lib.ListN.{take, drop}
@@ -10,7 +10,6 @@ use Rattle.buffer.specs.BoolLaws.{true≢false}
 use Rattle.buffer.specs.Bytes.{zeros, same}
 use Rattle.buffer.specs.BytesLaws.{same-if, same-of}
 use Rattle.profile.specs.Elements.{start}
-use Rattle.profile.specs.Plan.{Plan, withMark}
 use Rattle.profile.specs.Numbers.{planOf, numbersOf}
 use Rattle.profile.specs.Layout.{slots, profileId, layout}
 use Rattle.profile.specs.Shape.{shape, slotsOf}
@@ -18,20 +17,14 @@ use Rattle.profile.specs.declared.Numbers.{Numbers}
 use Rattle.reader_spec.specs.Table.{varyingOf}
 use Rattle.reader_spec.specs.PlanIn.{planIn}
 use Rattle.reader_spec.specs.FitsLaws.{Bytes}
-use Rattle.reader_spec.specs.RefusalList.{Answer, refused, accepted, c26, c27, c28}
+use Rattle.reader_spec.specs.RefusalList.{refused, c26, c27}
 use Rattle.reader_spec.specs.Decide.{BodyIs}
-use Rattle.reader_spec.specs.Read.{fromId, fromRange, fromBody}
+use Rattle.reader_spec.specs.Read.{byId, fromId, fromRange, fromBody}
 use Rattle.reader_spec.specs.Steps.{Candidate}
-use Rattle.reader_spec.specs.StepsLaws.{body-26, body-range, range-27, range-id, id-computed, id-not-computed, id-28}
+use Rattle.reader_spec.specs.StepsLaws.{body-26, body-range, range-27, range-id}
 use Rattle.reader_spec.specs.Tests.{lettersAndCicpGood, numbersInRange}
 use Rattle.reader_spec.specs.TestsLaws.{in-range-content, content-in-range}
 use Rattle.reader_spec.specs.CandidateLaws.{plan-is, shape-is, wrong-letters, content, same-slots, body-if, body-of, id-laid}
-
--- `byId` by tests
-abbrev pub byTests : Bool → Bool → Plan → Answer
-byTests true zero p = accepted (withMark false p)
-byTests false true p = accepted (withMark true p)
-byTests false false p = refused c28
 
 module _ (f : List ℕ) (p : Numbers) (t : List ℕ) (c : Candidate f p t) where
   -- a letter above 127 or another `cicp` value
@@ -84,13 +77,8 @@ module _ (f : List ℕ) (p : Numbers) (t : List ℕ) (c : Candidate f p t) where
         laid : take 16 (drop 84 (layout (planOf p t))) ≡ profileId f
         laid = ap (λ q. take 16 (drop 84 (layout q))) (plan-is f p t c) ∙ id-laid f p t c bytes good body
 
-        other : same (take 16 (drop 84 f)) (take 16 (drop 84 (layout (planOf p t)))) ≡ false → ¬ (take 16 (drop 84 f) ≡ profileId f)
-        other e h = true≢false (sym (same-of (h ∙ sym laid)) ∙ e)
-
-        -- the correct id, zeros that are not, and another id
-        pub by-id : (correct zero : Bool) → same (take 16 (drop 84 f)) (take 16 (drop 84 (layout (planOf p t)))) ≡ correct → same (take 16 (drop 84 f)) (zeros 16) ≡ zero
-            → fromBody f ≡ byTests correct zero (planIn f)
-        unfolding varyingOf
-        by-id true zero e z = to-id ∙ id-computed f (same-if _ _ e ∙ laid)
-        by-id false true e z = to-id ∙ id-not-computed f (other e) (same-if _ _ z)
-        by-id false false e z = to-id ∙ id-28 f (other e) (λ h. true≢false (sym (same-of h) ∙ z))
+        -- the id: the one in the layout, or zeros
+        pub by-id : {correct zero : Bool} → same (take 16 (drop 84 f)) (take 16 (drop 84 (layout (planOf p t)))) ≡ correct → same (take 16 (drop 84 f)) (zeros 16) ≡ zero
+            → fromBody f ≡ byId correct zero (planIn f)
+        unfolding fromId varyingOf
+        by-id e z = to-id ∙ ap₂ (λ a b. byId a b (planIn f)) (ap (same (take 16 (drop 84 f))) (sym laid) ∙ e) z

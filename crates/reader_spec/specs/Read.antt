@@ -1,11 +1,11 @@
 -- The reader as a computation: the one plan that can lay out to a file is read from it, and the file is held against it. `ReadLaws` shows that
 -- it answers as the refusal list says. Assumes nothing.
 use Prim.Native.Nat.{ℕ}
-use mathlib.Core.Bool.{true, false}
+use mathlib.Core.Bool.{Bool, true, false}
 use mathlib.Core.List.{List}
 use native.Mathlib.Decide.{decLe, ℕ-discrete}
 use lib.ListN.{length}
-use Rattle.buffer.specs.Bytes.{zeros}
+use Rattle.buffer.specs.Bytes.{zeros, same}
 use Rattle.profile.specs.Plan.{Plan, InRange, withMark}
 use Rattle.profile.specs.Layout.{idSize, profileId}
 use Rattle.reader_spec.specs.Table.{varyingOf}
@@ -19,16 +19,16 @@ check (yes a) c r = r
 check (no h) c r = refused c
 
 -- the correct id is tried first; zeros that are not the correct id mean not computed (02, order 7)
-unfoldable pub byId : {A B : Type 0} → Dec A → Dec B → Plan → Answer
-byId (yes correct) zero p = accepted (withMark false p)
-byId (no other) (yes zero) p = accepted (withMark true p)
-byId (no other) (no nonzero) p = refused c28
+abbrev pub byId : Bool → Bool → Plan → Answer
+byId true zero p = accepted (withMark false p)
+byId false true p = accepted (withMark true p)
+byId false false p = refused c28
 
 -- what is left to answer from a check on
 unfoldable pub fromId : List ℕ → Answer
 fromId f =
     let id = varyingOf f .id in
-    byId (Decide.same-bytes id (profileId f)) (Decide.same-bytes id (zeros idSize)) (planIn f)
+    byId (same id (profileId f)) (same id (zeros idSize)) (planIn f)
 
 unfoldable pub fromRange : List ℕ → Answer
 fromRange f = check (Decide.content InRange Decide.in-range (planIn f .content)) c27 (fromId f)

@@ -2,13 +2,14 @@
 use Prim.Native.Nat.{ℕ}
 use mathlib.Core.Path.{_≡_, refl, ap, sym, _∙_, subst}
 use mathlib.Core.Logic.{inl, inr, ⊎-elim}
-use mathlib.Core.Bool.{true, false}
+use mathlib.Core.Bool.{Bool, true, false, true≢false}
 use mathlib.Core.List.{List, [], _∷_, _++_}
 use native.Mathlib.Decide.{decLe, ℕ-discrete}
 use lib.ListN.{length, drop}
 use Rattle.buffer.specs.First.{fails, later}
 use Rattle.profile.specs.Elements.{start, table, entries, fileLength}
-use Rattle.buffer.specs.Bytes.{zeros}
+use Rattle.buffer.specs.Bytes.{zeros, same}
+use Rattle.buffer.specs.BytesLaws.{same-if, same-of}
 use Rattle.profile.specs.Plan.{Plan, withMark, kind, GoodContent, GoodIntent, InRange}
 use Rattle.profile.specs.declared.Kind.{Kind}
 use Rattle.profile.specs.PlanLaws.{good-nines, good-shape, slots-shape}
@@ -44,6 +45,9 @@ step : {A : Type 0} (f : List ℕ) (d : Dec A) (c : RefusalList.Check) (cs : Lis
 unfolding check
 step f (yes a) c cs r to from k = onward (to a) (k (to a))
 step f (no h) c cs r to from k = one-fails (fails (λ p. h (from p)))
+
+different : {a b : List ℕ} → same a b ≡ false → ¬ (a ≡ b)
+different e h = true≢false (sym (same-of h) ∙ e)
 
 -- ---- each test is its check
 
@@ -144,14 +148,14 @@ module _ (f : List ℕ) (ok21 : RefusalList.Ok21 f) where
     -- ---- from each check on
 
     from-id : RefusalList.Ok27 f → From f (RefusalList.c28 ∷ []) (fromId f)
-    unfolding fromId byId
-    from-id a = go (Decide.same-bytes (varyingOf f .id) (profileId f)) (Decide.same-bytes (varyingOf f .id) (zeros 16))
+    unfolding fromId
+    from-id a = go _ _ refl refl
       where
-        go : (c : Dec (varyingOf f .id ≡ profileId f)) (z : Dec (varyingOf f .id ≡ zeros 16)) → From f (RefusalList.c28 ∷ []) (byId c z (planIn f))
-        go (yes e) z = onward (record { id = inl e }) (computed a e)
-        go (no h) (yes e) = onward (record { id = inr e }) (not-computed a h e)
-        go (no h) (no k) =
-            let neither : ¬ (RefusalList.Ok28 f) = λ b. ⊎-elim h k (b .id) in
+        go : (c z : Bool) → same (varyingOf f .id) (profileId f) ≡ c → same (varyingOf f .id) (zeros 16) ≡ z → From f (RefusalList.c28 ∷ []) (byId c z (planIn f))
+        go true z e h = let id = same-if _ _ e in onward (record { id = inl id }) (computed a id)
+        go false true e h = let id = same-if _ _ h in onward (record { id = inr id }) (not-computed a (different e) id)
+        go false false e h =
+            let neither : ¬ (RefusalList.Ok28 f) = λ b. ⊎-elim (different e) (different h) (b .id) in
             one-fails (fails {c = RefusalList.c28} neither)
 
     from-range : RefusalList.Ok26 f → From f (RefusalList.c27 ∷ RefusalList.c28 ∷ []) (fromRange f)

@@ -7,7 +7,7 @@ use native.Mathlib.Omega.{arith}
 use lib.ListN.{length}
 use mir.Syntax.{w32}
 use mir.Val.{SFits}
-use Rattle.buffer.specs.Bytes.{zeros}
+use Rattle.buffer.specs.Bytes.{zeros, same}
 use Rattle.profile.specs.Plan.{Plan, withMark, GoodContent, GoodIntent, InRange, Wide}
 use Rattle.profile.specs.declared.Kind.{Kind}
 use Rattle.profile.specs.Layout.{profileId, computedId, layout}
@@ -32,23 +32,6 @@ failed : {A : Type 0} (d : Dec A) (c : RefusalList.Check) (r : RefusalList.Answe
 unfolding check
 failed (yes a) c r h = absurd (h a)
 failed (no k) c r h = refl
-
-by-correct : {A B : Type 0} (c : Dec A) (z : Dec B) (p : Plan) → A → byId c z p ≡ RefusalList.accepted (withMark false p)
-unfolding byId
-by-correct (yes a) z p h = refl
-by-correct (no k) z p h = absurd (k h)
-
-by-zeros : {A B : Type 0} (c : Dec A) (z : Dec B) (p : Plan) → ¬ A → B → byId c z p ≡ RefusalList.accepted (withMark true p)
-unfolding byId
-by-zeros (yes a) z p h b = absurd (h a)
-by-zeros (no k) (yes c) p h b = refl
-by-zeros (no k) (no c) p h b = absurd (c b)
-
-by-another : {A B : Type 0} (c : Dec A) (z : Dec B) (p : Plan) → ¬ A → ¬ B → byId c z p ≡ RefusalList.refused RefusalList.c28
-unfolding byId
-by-another (yes a) z p h b = absurd (h a)
-by-another (no k) (yes c) p h b = absurd (b c)
-by-another (no k) (no c) p h b = refl
 
 -- ---- 21 to 24
 
@@ -105,19 +88,6 @@ module _ (p : Plan) (f : List ℕ) (e : planIn f ≡ p) where
   unfolding fromRange
   range-id c = passed _ _ _ (subst (λ x. GoodContent InRange (x .content)) (sym e) c)
 
-module _ (f : List ℕ) where
-  pub id-computed : varyingOf f .id ≡ profileId f → fromId f ≡ RefusalList.accepted (withMark false (planIn f))
-  unfolding fromId
-  id-computed h = by-correct _ _ (planIn f) h
-
-  pub id-not-computed : ¬ (varyingOf f .id ≡ profileId f) → varyingOf f .id ≡ zeros 16 → fromId f ≡ RefusalList.accepted (withMark true (planIn f))
-  unfolding fromId
-  id-not-computed h z = by-zeros _ _ (planIn f) h z
-
-  pub id-28 : ¬ (varyingOf f .id ≡ profileId f) → ¬ (varyingOf f .id ≡ zeros 16) → fromId f ≡ RefusalList.refused RefusalList.c28
-  unfolding fromId
-  id-28 h k = by-another _ _ (planIn f) h k
-
 -- the id of a file that has a plan's regions is the one in the plan's layout
 pub laid-id : (k : Kind) (f : List ℕ) (p : Plan) → Headed k f → Wide p → RefusalList.Has p f → varyingOf (layout (withMark false p)) .id ≡ profileId f
 laid-id k f p h w has =
@@ -127,13 +97,13 @@ laid-id k f p h w has =
 -- what is accepted from 26 on is that plan, with the mark or without it
 pub accepted-plan : (f : List ℕ) → RefusalList.refusalNumber (fromBody f) ≡ 0 → (m : Bool) × (fromBody f ≡ RefusalList.accepted (withMark m (planIn f)))
 unfolding fromBody fromRange fromId
-accepted-plan f e = go _ _ _ _ (planIn f) e
+accepted-plan f e = go _ _ (same (varyingOf f .id) (profileId f)) (same (varyingOf f .id) (zeros 16)) (planIn f) e
   where
-    go : {A B C D : Type 0} (a : Dec A) (b : Dec B) (c : Dec C) (d : Dec D) (p : Plan)
-        → let r = check a RefusalList.c26 (check b RefusalList.c27 (byId c d p)) in
+    go : {A B : Type 0} (a : Dec A) (b : Dec B) (correct zero : Bool) (p : Plan)
+        → let r = check a RefusalList.c26 (check b RefusalList.c27 (byId correct zero p)) in
         RefusalList.refusalNumber r ≡ 0 → (m : Bool) × (r ≡ RefusalList.accepted (withMark m p))
-    go (yes a) (yes b) (yes c) d p e = (false, unfold check byId in refl)
-    go (yes a) (yes b) (no c) (yes d) p e = (true, unfold check byId in refl)
-    go (yes a) (yes b) (no c) (no d) p e = absurd (unfold check byId in omega arith)
-    go (yes a) (no b) c d p e = absurd (unfold check in omega arith)
-    go (no a) b c d p e = absurd (unfold check in omega arith)
+    go (yes a) (yes b) true zero p e = (false, unfold check in refl)
+    go (yes a) (yes b) false true p e = (true, unfold check in refl)
+    go (yes a) (yes b) false false p e = absurd (unfold check in omega arith)
+    go (yes a) (no b) correct zero p e = absurd (unfold check in omega arith)
+    go (no a) b correct zero p e = absurd (unfold check in omega arith)

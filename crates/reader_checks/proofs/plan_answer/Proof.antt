@@ -1,7 +1,7 @@
 -- Each answer is the number of the check that its test makes, or the mark of the plan (`ComparedLaws`).
 use Prim.Native.Nat.{ℕ}
 use mathlib.Core.Path.{_≡_, refl, ap, sym, _∙_}
-use mathlib.Core.Bool.{Bool, true, false}
+use mathlib.Core.Bool.{Bool, true}
 use mathlib.Core.List.{List}
 use lib.ListN.{drop}
 use borrow.Author.Needs.{needs}
@@ -14,10 +14,10 @@ use Rattle.profile.specs.Shape.{shape, slotsOf}
 use Rattle.profile.specs.declared.Numbers.{Numbers}
 use Rattle.reader_spec.specs.FitsLaws.{Bytes}
 use Rattle.reader_spec.specs.PlanIn.{planIn}
-use Rattle.reader_spec.specs.Read.{fromBody}
+use Rattle.reader_spec.specs.Read.{byId, fromBody}
 use Rattle.reader_spec.specs.RefusalList.{Answer, refusalNumber, markNumber}
 use Rattle.reader_spec.specs.Tests.{lettersAndCicpGood, numbersInRange}
-use Rattle.reader_spec.specs.ComparedLaws.{byTests, by-letters, by-elements, by-range, by-id}
+use Rattle.reader_spec.specs.ComparedLaws.{by-letters, by-elements, by-range, by-id}
 use Rattle.reader_checks.proofs.plan_answer.Statement.{statement}
 use Rattle.reader_checks.proofs.plan_answer.Tie as tie
 
@@ -91,21 +91,21 @@ module _ (c : tie.After-id-is-zeros) where
   in-range : numbersInRange (plan first) ≡ true
   in-range = sym (c .before .before .numbers-in-range .ensures) ∙ not-false _ (c .before .if3 .left)
 
-  by-both : (correct zero : Bool) → compared .before .before .compared .result .id ≡ correct → c .id-is-zeros .result ≡ zero
-      → fromBody (file first) ≡ byTests correct zero (planIn (file first))
-  by-both correct zero e z =
+  by-both : {correct zero : Bool} → compared .before .before .compared .result .id ≡ correct → c .id-is-zeros .result ≡ zero
+      → fromBody (file first) ≡ byId correct zero (planIn (file first))
+  by-both e z =
       let l = letters compared in
-      by-id (file first) (plan first) (text first) (first .pre) (bytes l) (good l) (same-elements compared) in-range correct zero
+      by-id (file first) (plan first) (text first) (first .pre) (bytes l) (good l) (same-elements compared) in-range
       (sym (compared .before .before .compared .ensures .1) ∙ e) (sym (c .id-is-zeros .ensures) ∙ z)
 
 returns-4 : tie.Need-returns-4
-returns-4 c = let t = c .before in answered (c .accepted .ensures) (by-both (t .before) true _ (t .if4 .taken) refl)
+returns-4 c = let t = c .before in answered (c .accepted .ensures) (by-both (t .before) (t .if4 .taken) refl)
 
 returns-5 : tie.Need-returns-5
-returns-5 c = let t = c .before in answered (c .accepted2 .ensures) (by-both (t .before .before) false true (t .before .if4 .left) (t .if5 .taken))
+returns-5 c = let t = c .before in answered (c .accepted2 .ensures) (by-both (t .before .before) (t .before .if4 .left) (t .if5 .taken))
 
 returns-6 : tie.Need-returns-6
-returns-6 c = let t = c .before in answered (c .refused4 .ensures) (by-both (t .before .before) false false (t .before .if4 .left) (t .if5 .left))
+returns-6 c = let t = c .before in answered (c .refused4 .ensures) (by-both (t .before .before) (t .before .if4 .left) (t .if5 .left))
 
 pub plan-answer-spec : {M : Type 1} → statement M
 plan-answer-spec =
