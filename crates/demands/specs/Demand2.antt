@@ -1,32 +1,33 @@
--- Demand 2 of the writer: with a curve other than PQ and HLG, writing succeeds exactly if `validate_icc_matrix` does, a gamma's reciprocal fits, XYB is
--- Perceptual and the output is not shorter than the profile; 1,200 bytes are enough. And where `validate_icc_matrix` refuses, the writer refuses by a
--- number that its answer stands for. Assumes nothing.
+-- Demand 2 of the writer: with a curve other than PQ and HLG, writing succeeds exactly if `validate_icc_matrix` does, a gamma's reciprocal fits and the
+-- output is not shorter than the profile; 1,200 bytes are enough. So writing XYB always succeeds with enough output, 720 bytes (02, order 8). And where
+-- `validate_icc_matrix` refuses, the writer refuses by a number that its answer stands for. Assumes nothing.
 use Prim.Native.Nat.{ℕ, _≤_}
 use mathlib.Core.Path.{_≡_, refl, sym, ap, _∙_}
 use mathlib.Core.Logic.{_↔_}
-use mathlib.Core.Bool.{true}
+use mathlib.Core.Bool.{true, cond}
 use native.Mathlib.Nat.{le-trans}
+use lib.Dec.{leb}
 use lib.ListN.{length}
 use Rattle.buffer.specs.Checked.{Checked, is, refused}
 use Rattle.buffer.specs.CheckedLaws.{Passes}
 use Rattle.numbers.specs.Rounded.{roundedIn, counted}
-use Rattle.color_encoding.specs.declared.RenderingIntent.the-variants.{Perceptual}
+use Rattle.color_encoding.specs.declared.RenderingIntent.{RenderingIntent}
 use Rattle.color_encoding.specs.declared.JxlColorEncoding.{JxlColorEncoding}
 use Rattle.color_encoding.specs.declared.JxlColorEncoding.the-variants.{RgbColorSpace, GrayscaleColorSpace, XYB}
 use Rattle.text.specs.Held.{HeldEncoding}
 use Rattle.profile.specs.Layout.{layout}
-use Rattle.encoding_plan.specs.PlanOf.{planOf}
+use Rattle.encoding_plan.specs.PlanOf.{xybPlan, planOf}
 use Rattle.encoding_plan.specs.FixedFloats.{fixedFloats, countedPlan}
-use Rattle.encoding_plan.specs.EncodingPlan.{countedEncodingPlan}
+use Rattle.encoding_plan.specs.EncodingPlan.{encodingWith, countedEncodingPlan}
 use Rattle.encoding_plan.specs.declared.Encoding.{Encoding}
 use Rattle.validate.specs.Validate.{inRange, standsFor, validation, validateIccMatrix}
 use Rattle.validate.specs.declared.Validation.the-variants.{Valid}
-use Rattle.writer.specs.Writer.{answer, maxWritten}
+use Rattle.writer.specs.Writer.{answer, maxWritten, tooShort}
 use Rattle.writer.specs.WriterLaws.{any-device}
 use Rattle.writer.specs.declared.Profile.the-variants.{Written, Refused}
-use Rattle.writer_laws.specs.RefusalList.{Ok1, Ok2, Ok8, Ok9}
+use Rattle.writer_laws.specs.RefusalList.{Ok1, Ok8, Ok9}
 use Rattle.writer_laws.specs.WrittenLength.{written-length}
-use Rattle.demands.specs.Demand2Laws.{valid-if, named, has-plan, has-room, written, gray-planned, gray-plan-if, gray-refused, rgb-planned, rgb-plan-if, rgb-refused, perceptual-if, xyb-valid, xyb-plan-if, xyb-refused}
+use Rattle.demands.specs.Demand2Laws.{valid-if, named, has-plan, has-room, written, gray-planned, gray-plan-if, gray-refused, rgb-planned, rgb-plan-if, rgb-refused, xyb-planned, xyb-valid, xyb-answered, xyb-refused}
 
 -- ---- the conditions; those that the refusal list names too are its own: 1, that the curve is neither PQ nor HLG, and 9, that the output is not shorter than
 -- the profile, among them
@@ -35,8 +36,6 @@ pub record Acceptable (e : JxlColorEncoding) : Type 0 where
   pub matrix : validateIccMatrix e ≡ Valid
   -- where the curve is a gamma g, 1 / g, divided in f32, has a fixed number
   pub gamma : Ok8 e
-  -- XYB has the intent Perceptual
-  pub intent : Ok2 e
 
 -- what `maybe_create_profile` answers for an output of n bytes is a length, with the count of rounded numbers
 pub record Succeeds (e : Encoding) (n : ℕ) : Type 0 where
@@ -59,18 +58,22 @@ succeeds-exactly-if e h n = (λ s. (acceptable (e .color) (has-plan (e .color) n
     answers s = sym (any-device e n) ∙ s .answers
 
     acceptable : (e : JxlColorEncoding) → Passes (planOf e) → Acceptable e
-    acceptable (GrayscaleColorSpace w t i) p = let a = gray-planned w t i (p .given) in record { matrix = ap validation (a .0); gamma = a .1; intent = tt }
-    acceptable (RgbColorSpace w q t i) p = let a = rgb-planned w q t i (p .given) in record { matrix = ap validation (a .0); gamma = a .1; intent = tt }
-    acceptable (XYB i) p = record { matrix = xyb-valid i; gamma = tt; intent = perceptual-if i (p .given) }
+    acceptable (GrayscaleColorSpace w t i) p = let a = gray-planned w t i (p .given) in record { matrix = ap validation (a .0); gamma = a .1 }
+    acceptable (RgbColorSpace w q t i) p = let a = rgb-planned w q t i (p .given) in record { matrix = ap validation (a .0); gamma = a .1 }
+    acceptable (XYB i) p = record { matrix = xyb-valid i; gamma = tt }
 
     plan : (e : JxlColorEncoding) → Ok1 e → Acceptable e → Passes (planOf e)
     plan (GrayscaleColorSpace w t i) h a = gray-plan-if w t i h (a .gamma) (valid-if _ (a .matrix))
     plan (RgbColorSpace w q t i) h a = rgb-plan-if w q t i h (a .gamma) (valid-if _ (a .matrix))
-    plan (XYB i) h a = xyb-plan-if i (a .intent)
+    plan (XYB i) h a = record { value = xybPlan i; given = xyb-planned i }
 
     succeeds : Passes (planOf (e .color)) → Ok9 (e .color) n → Succeeds e n
     succeeds p room =
         record { size = length (layout (p .value)); rounded = roundedIn (fixedFloats (e .color)); answers = any-device e n ∙ written (e .color) n (p .given) (room (p .value) (p .given)) }
+
+-- whatever the intent, the maker and the model
+pub xyb-answer : (i : RenderingIntent) (maker model n : ℕ) → answer (countedEncodingPlan (encodingWith maker model (XYB i))) n ≡ cond (leb 720 n) (Written 720 30) (Refused tooShort)
+xyb-answer i maker model n = any-device (encodingWith maker model (XYB i)) n ∙ xyb-answered i n
 
 -- the floats of the encoding are binary32 values, as those of the code are
 pub enough-output : (e : JxlColorEncoding) → HeldEncoding e → (n : ℕ) → maxWritten ≤ n → Ok9 e n

@@ -22,7 +22,6 @@ use Rattle.numbers.specs.declared.fixed.S15Fixed16.the-variants.{Number, OutOfR
 use Rattle.linalg.specs.Linalg.{component, rows, columns}
 use Rattle.color_encoding.specs.Coordinates.{whiteXy, primariesXy}
 use Rattle.color_encoding.specs.declared.RenderingIntent.{RenderingIntent}
-use Rattle.color_encoding.specs.declared.RenderingIntent.the-variants.{Perceptual, Relative, Saturation, Absolute}
 use Rattle.color_encoding.specs.declared.WhiteXy.{WhiteXy}
 use Rattle.color_encoding.specs.declared.PrimariesXy.{PrimariesXy}
 use Rattle.color_encoding.specs.declared.JxlWhitePoint.{JxlWhitePoint}
@@ -36,11 +35,15 @@ use Rattle.adaptation.specs.Adapt.{chadMatrix}
 use Rattle.colorimetry.specs.Primaries.{createIccRgbMatrix}
 use Rattle.colorimetry.specs.RefusalLaws.{by-white, by-chad, by-rgb-matrix}
 use Rattle.profile.specs.Plan.{Plan}
+use Rattle.profile.specs.Elements.{fileLength, start, bodySize, tagCount, padding}
+use Rattle.profile.specs.Shape.{slotsOf}
 use Rattle.profile.specs.Layout.{layout}
+use Rattle.profile.specs.LayoutLaws.{length-layout}
 use Rattle.profile.specs.declared.Curve.{Curve}
 use Rattle.encoding_plan.specs.Answers.{reciprocalRefusal}
-use Rattle.encoding_plan.specs.PlanOf.{supported, curveOf, grayNumbers, chadNumbers, columnNumbers, planOf}
+use Rattle.encoding_plan.specs.PlanOf.{supported, curveOf, grayNumbers, chadNumbers, columnNumbers, xybPlan, planOf}
 use Rattle.encoding_plan.specs.FixedFloats.{fixedFloats, countedPlan}
+use Rattle.encoding_plan.specs.FixedFloatsLaws.{xyb-count}
 use Rattle.encoding_plan.specs.PlanOfLaws.{gray-plan, rgb-plan}
 use Rattle.encoding_curve.specs.declared.SupportedCurve.{SupportedCurve}
 use Rattle.validate.specs.Validate.{isS15Fixed16, allS15Fixed16, inRangeOr, whiteInRange, matrixInRange, matricesInRange, inRange, standsFor, errorAt, validation, validateIccMatrix}
@@ -264,19 +267,14 @@ module _ (w : JxlWhitePoint) (q : JxlPrimaries) (t : JxlTransferFunction) (i : R
         (refused-after (chadNumbers (whiteXy w)) (columnNumbers (primariesXy q) (whiteXy w)) (rgb-tested (primariesXy q) (whiteXy w) ∙ e) _)
 
 module _ (i : RenderingIntent) where
-  pub perceptual-if : {p : Plan} → planOf (XYB i) ≡ is p → i ≡ Perceptual
+  pub xyb-planned : planOf (XYB i) ≡ is (xybPlan i)
   unfolding planOf
-  perceptual-if e = go i refl
-    where
-      go : (j : RenderingIntent) → i ≡ j → i ≡ Perceptual
-      go Perceptual h = h
-      go Relative h = absurd (never (sym (ap (λ j. planOf (XYB j)) h) ∙ e))
-      go Saturation h = absurd (never (sym (ap (λ j. planOf (XYB j)) h) ∙ e))
-      go Absolute h = absurd (never (sym (ap (λ j. planOf (XYB j)) h) ∙ e))
+  xyb-planned = refl
 
-  pub xyb-plan-if : i ≡ Perceptual → Passes (planOf (XYB i))
-  unfolding planOf
-  xyb-plan-if h = record { value = _; given = ap (λ j. planOf (XYB j)) h }
+  -- its file has 720 bytes, and 30 of its fixed numbers are rounded
+  pub xyb-answered : (n : ℕ) → answer (countedPlan (XYB i)) n ≡ cond (leb 720 n) (Written 720 30) (Refused tooShort)
+  unfolding planOf slotsOf fileLength start bodySize tagCount padding
+  xyb-answered n = rw (length-layout (xybPlan i) tt, xyb-count i) refl
 
   pub xyb-valid : validateIccMatrix (XYB i) ≡ Valid
   unfolding inRange

@@ -16,3 +16,6 @@ pub mod DeviceLaws
 pub mod Device
 pub mod NotComputedLaws
 pub mod NotComputed
+pub mod XybFiles
+pub mod XybIntentsLaws
+pub mod XybIntents

@@ -2,15 +2,13 @@
 use mathlib.Core.Path.{_≡_, refl, sym, ap, _∙_}
 use mathlib.Core.Bool.{false}
 use Rattle.buffer.specs.Checked.{Checked, is, refused, then}
-use Rattle.buffer.specs.CheckedLaws.{both, never}
+use Rattle.buffer.specs.CheckedLaws.{both}
 use Rattle.numbers.specs.Rounded.{counted}
-use Rattle.color_encoding.specs.declared.RenderingIntent.{RenderingIntent}
-use Rattle.color_encoding.specs.declared.RenderingIntent.the-variants.{Perceptual, Relative, Saturation, Absolute}
 use Rattle.color_encoding.specs.declared.JxlColorEncoding.{JxlColorEncoding}
 use Rattle.color_encoding.specs.declared.JxlColorEncoding.the-variants.{RgbColorSpace, GrayscaleColorSpace, XYB}
 use Rattle.color_encoding.specs.Coordinates.{whiteXy, primariesXy}
 use Rattle.profile.specs.Plan.{Plan, plainPlan, withDevice}
-use Rattle.encoding_plan.specs.PlanOf.{supported, curveOf, cicpOf, grayNumbers, chadNumbers, columnNumbers, grayPlan, rgbPlan, planOf}
+use Rattle.encoding_plan.specs.PlanOf.{supported, curveOf, cicpOf, grayNumbers, chadNumbers, columnNumbers, grayPlan, rgbPlan, xybPlan, planOf}
 use Rattle.encoding_plan.specs.FixedFloats.{fixedFloats, countedPlan}
 use Rattle.encoding_plan.specs.EncodingPlan.{encodingPlan, plainEncoding, countedEncodingPlan}
 use Rattle.encoding_plan.specs.declared.Encoding.{Encoding}
@@ -22,13 +20,6 @@ Plain p = plainPlan (p .intent) (p .content) ≡ p
 
 plain-is : (q : Plan) {p : Plan} → Plain q → is q ≡ is p → Plain p
 plain-is q {p} h e = let same : q ≡ p = cc e in rw (← same) h
-
-plain-xyb : (i : RenderingIntent) {p : Plan} → planOf (XYB i) ≡ is p → Plain p
-unfolding planOf
-plain-xyb Perceptual e = plain-is _ refl e
-plain-xyb Relative e = absurd (never e)
-plain-xyb Saturation e = absurd (never e)
-plain-xyb Absolute e = absurd (never e)
 
 plain-planned : (c : JxlColorEncoding) {p : Plan} → planOf c ≡ is p → Plain p
 unfolding planOf
@@ -43,7 +34,7 @@ plain-planned (RgbColorSpace w q t i) e =
     let columns = both (columnNumbers (primariesXy q) (whiteXy w)) _ (chad .second) in
     let last = both (curveOf (curve .value)) _ (columns .second) in
     plain-is (rgbPlan (RgbColorSpace w q t i) i (last .value) (cicpOf w q (last .value)) (chad .value) (columns .value)) refl (last .second)
-plain-planned (XYB i) e = plain-xyb i e
+plain-planned (XYB i) e = plain-is (xybPlan i) refl e
 
 pub plain-fields : (c : JxlColorEncoding) {p : Plan} → planOf c ≡ is p → (p .maker ≡ 0) × (p .model ≡ 0) × (p .id-not-computed ≡ false)
 plain-fields c h =

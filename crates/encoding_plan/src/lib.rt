@@ -131,22 +131,16 @@ fn rgb_plan(
     }
 }
 
-// XYB has the one plan and the one intent.
+// XYB has a plan of each intent, and is never refused.
 fn xyb_plan(intent: RenderingIntent) -> EncodingPlan
     ensures { λ r. ⌜ checkedPlan r (JxlColorEncoding.XYB intent) ≡ countedPlan (JxlColorEncoding.XYB intent) ⌝ }
 {
-    match intent {
-        RenderingIntent::Perceptual => {
-            let plan = profile::xyb_numbers(0);
-            EncodingPlan {
-                refusal: 0,
-                plan,
-                rounded: D50_ROUNDED + XYB_ROUNDED,
-            }
-        }
-        RenderingIntent::Relative => refused(2),
-        RenderingIntent::Saturation => refused(2),
-        RenderingIntent::Absolute => refused(2),
+    let number = intent.number();
+    let plan = profile::xyb_numbers(number);
+    EncodingPlan {
+        refusal: 0,
+        plan,
+        rounded: D50_ROUNDED + XYB_ROUNDED,
     }
 }
 

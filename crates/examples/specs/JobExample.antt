@@ -16,9 +16,10 @@ use Rattle.profile.specs.TagTypes.{join}
 use Rattle.profile.specs.Elements.{fileLength, start, bodySize, tagCount, padding}
 use Rattle.profile.specs.Shape.{slotsOf}
 use Rattle.profile.specs.LayoutLaws.{length-layout}
-use Rattle.encoding_plan.specs.PlanOf.{planOf}
+use Rattle.encoding_plan.specs.PlanOf.{xybPlan, planOf}
 use Rattle.encoding_plan.specs.FixedFloats.{fixedFloats, countedPlan}
-use Rattle.writer.specs.declared.Profile.the-variants.{Written, Refused}
+use Rattle.encoding_plan.specs.FixedFloatsLaws.{xyb-count}
+use Rattle.writer.specs.declared.Profile.the-variants.{Written}
 use Rattle.job_entry.specs.Entry.{grayEncoding, rgbEncoding, xybEncoding}
 use Rattle.job.specs.Job.{entriesFrom, cut, job}
 use Rattle.job.specs.declared.JobEntry.{JobEntry}
@@ -43,11 +44,11 @@ first =
     ap (λ (p : Checked Plan). enough (counted (fixedFloats (srgb Perceptual)) p)) perceptual-plan
     ∙ ap₂ Written (length-layout (srgbPlan 0 (ascii "sRGB")) (refl, refl)) (srgb-count Perceptual)
 
-second : enough (countedPlan (XYB Relative)) ≡ Refused 2
-unfolding planOf
-second = refl
+second : enough (countedPlan (XYB Relative)) ≡ Written 720 30
+unfolding planOf slotsOf fileLength start bodySize tagCount padding
+second = ap₂ Written (length-layout (xybPlan Relative) tt) (xyb-count Relative)
 
-pub listing-44 : listing (job 1 job44) ≡ ascii "profiles 2" ++ (10 ∷ ascii "2 1 504") ++ (10 ∷ ascii "3 1 refused 2") ++ (10 ∷ [])
+pub listing-44 : listing (job 1 job44) ≡ ascii "profiles 2" ++ (10 ∷ ascii "2 1 504") ++ (10 ∷ ascii "3 1 720") ++ (10 ∷ [])
 unfolding outputOf firstLine entryLine join digits digitsUpTo size
 listing-44 = ap listing job-44 ∙ rw (first, second)
 

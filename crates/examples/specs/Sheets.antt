@@ -12,7 +12,7 @@ use Rattle.buffer.specs.Ascii.{ascii}
 use Rattle.numbers.specs.Fixed.{s15Fixed16}
 use Rattle.numbers.specs.declared.fixed.S15Fixed16.{S15Fixed16}
 use Rattle.numbers.specs.declared.fixed.S15Fixed16.the-variants.{Number, OutOfRange}
-use Rattle.color_encoding.specs.declared.RenderingIntent.the-variants.{Perceptual, Relative}
+use Rattle.color_encoding.specs.declared.RenderingIntent.the-variants.{Perceptual, Relative, Saturation, Absolute}
 use Rattle.color_encoding.specs.declared.JxlColorEncoding.{JxlColorEncoding}
 use Rattle.color_encoding.specs.declared.JxlWhitePoint.the-variants as W
 use Rattle.color_encoding.specs.declared.JxlPrimaries.the-variants as P
@@ -63,6 +63,9 @@ table =
     ∷ bytes (RgbColorSpace W.D65 P.SRGB F.SRGB Relative) 536 24
     ∷ bytes (GrayscaleColorSpace W.D65 F.SRGB Relative) 328 7
     ∷ bytes (XYB Perceptual) 720 30
+    ∷ bytes (XYB Relative) 720 30
+    ∷ bytes (XYB Saturation) 720 30
+    ∷ bytes (XYB Absolute) 720 30
     ∷ []
 
 pub sheets : All Holds table
@@ -77,4 +80,7 @@ sheets =
     (more Laws.tie-up
     (more Laws.minus-zero
     (more Laws.srgb-text
-    (more Laws.perceptual-504 (more Laws.relative-536 (more Laws.gray-328 (more Laws.xyb-720 none)))))))))))))
+    (more Laws.perceptual-504
+    (more Laws.relative-536
+    (more Laws.gray-328
+    (more (Laws.xyb-720 Perceptual) (more (Laws.xyb-720 Relative) (more (Laws.xyb-720 Saturation) (more (Laws.xyb-720 Absolute) none))))))))))))))))

@@ -33,7 +33,7 @@ use Rattle.adaptation.specs.Adapt.{hasZero, allFinite, lms, gains, adaptable, a
 use Rattle.colorimetry.specs.Primaries.{primariesMatrix, scaledPrimaries, primariesToXyz, primariesToXyzD50, createIccRgbMatrix}
 use Rattle.text.specs.Description.{whiteName, primariesName, transferName, rgbText, grayText, rgbDescription, description}
 use Rattle.profile.specs.Elements.{fileLength, start, bodySize, tagCount, padding}
-use Rattle.profile.specs.Plan.{Plan, gray, rgb, xyb, plainPlan}
+use Rattle.profile.specs.Plan.{Plan, gray, rgb, plainPlan}
 use Rattle.profile.specs.Shape.{slotsOf}
 use Rattle.profile.specs.Layout.{layout}
 use Rattle.profile.specs.LayoutLaws.{length-layout}
@@ -41,7 +41,7 @@ use Rattle.profile.specs.declared.CurveName.the-variants as Name
 use Rattle.profile.specs.declared.Curve.the-variants.{Named}
 use Rattle.profile.specs.declared.Cicp.the-variants.{Primaries}
 use Rattle.buffer.specs.Checked.{Checked, is}
-use Rattle.encoding_plan.specs.PlanOf.{planOf}
+use Rattle.encoding_plan.specs.PlanOf.{xybPlan, planOf}
 use Rattle.encoding_plan.specs.FixedFloats.{fixedFloats, countedPlan}
 use Rattle.encoding_plan.specs.FixedFloatsLaws.{xyb-count}
 use Rattle.writer.specs.Writer.{answer}
@@ -158,9 +158,7 @@ pub gray-328 : answer (countedPlan (GrayscaleColorSpace W.D65 F.SRGB Relative)) 
 unfolding slotsOf fileLength start bodySize tagCount padding
 gray-328 = exact _ _ 328 7 gray-plan (length-layout grayD65 tt) gray-count
 
-abbrev xybPlan : Plan
-xybPlan = plainPlan 0 xyb
-
-pub xyb-720 : answer (countedPlan (XYB Perceptual)) 720 ≡ Written 720 30
+-- whatever the intent
+pub xyb-720 : (i : RenderingIntent) → answer (countedPlan (XYB i)) 720 ≡ Written 720 30
 unfolding planOf slotsOf fileLength start bodySize tagCount padding
-xyb-720 = exact (XYB Perceptual) xybPlan 720 30 refl (length-layout xybPlan tt) (xyb-count Perceptual)
+xyb-720 i = exact (XYB i) (xybPlan i) 720 30 refl (length-layout (xybPlan i) tt) (xyb-count i)

@@ -107,9 +107,9 @@ rgb-parts i g =
     ∙ ap (λ (l : List ℕ). body (firstElements (g .text) D50) ++ (padded (sf32 (g .chad)) ++ l))
     (body-append es cs ∙ ap (λ (l : List ℕ). body es ++ l) (sym (append-nil (body cs))))
 
-pub xyb-parts : (i : ℕ) (m : List ℤ) → m ≡ XybNumbers.chad
-    → body (elementsFor i xyb) ≡ join (body (firstElements xybText D50) ∷ padded (sf32 m) ∷ padded a2b0 ∷ padded b2a0 ∷ [])
+pub xyb-parts : (i : ℕ) (t : List ℕ) (m : List ℤ) → t ≡ xybText i → m ≡ XybNumbers.chad
+    → body (elementsFor i xyb) ≡ join (body (firstElements t D50) ∷ padded (sf32 m) ∷ padded a2b0 ∷ padded b2a0 ∷ [])
 unfolding join body
-xyb-parts i m e =
-    body-append (firstElements xybText D50) (tag Sig.chad (sf32 XybNumbers.chad) ∷ tag Sig.A2B0 a2b0 ∷ tag Sig.B2A0 b2a0 ∷ [])
-    ∙ ap (λ (m : List ℤ). body (firstElements xybText D50) ++ (padded (sf32 m) ++ (padded a2b0 ++ (padded b2a0 ++ [])))) (sym e)
+xyb-parts i t m e h =
+    body-append (firstElements (xybText i) D50) (tag Sig.chad (sf32 XybNumbers.chad) ∷ tag Sig.A2B0 a2b0 ∷ tag Sig.B2A0 b2a0 ∷ [])
+    ∙ ap₂ (λ (t : List ℕ) (m : List ℤ). body (firstElements t D50) ++ (padded (sf32 m) ++ (padded a2b0 ++ (padded b2a0 ++ [])))) (sym e) (sym h)

@@ -65,7 +65,8 @@ fn put_xyb_elements(out: &mut [u8], at: usize, plan: Numbers, text: &[u8]) -> us
     ensures { λ r. ⌜ Puts (now (out .entry)) at (bodySize (Shapes.slotsOf (Shapes.shapeOf (contentBy Kind.Xyb plan (now (text .entry)))))) (body (Layout.elementsFor (plan .intent) (contentBy Kind.Xyb plan (now (text .entry))))) r (now (out .exit)) ⌝ }
 {
     let chad = xyb_constants::chad();
-    let at = put_first_elements(out, at, b"XYB_Per", D50);
+    let letters = profile::xyb_text(plan.intent);
+    let at = put_first_elements(out, at, &letters, D50);
     let at = elements::create_icc_chad_tag(out, at, &chad);
     let at = xyb_elements::create_icc_lut_atob_tag_for_xyb(out, at);
     xyb_elements::create_icc_noop_btoa_tag(out, at)

@@ -2,7 +2,6 @@
 use numbers::LARGEST;
 use profile::Cicp;
 use profile::Curve;
-use profile::Kind;
 use profile::MAX_LETTERS;
 use profile::Numbers;
 use profile::Shape;
@@ -18,15 +17,11 @@ pub fn both(a: bool, b: bool) -> bool
     if a { b } else { false }
 }
 
-// Whether a kind has this intent.
-pub fn intent_is(kind: Kind, intent: u32) -> bool
-    ensures { λ r. ⌜ r ≡ Decide.decided (Decide.intent kind intent) ⌝ }
+// Whether plans have this intent.
+pub fn intent_is_good(intent: u32) -> bool
+    ensures { λ r. ⌜ r ≡ Decide.decided (Decide.intent intent) ⌝ }
 {
-    match kind {
-        Kind::Gray => intent <= 3,
-        Kind::Rgb => intent <= 3,
-        Kind::Xyb => intent == 0,
-    }
+    intent <= 3
 }
 
 // Whether some plan has this shape.

@@ -15,7 +15,7 @@ use Rattle.buffer.specs.All.{All, none, more}
 use Rattle.buffer.specs.AllLaws.{All-append, All-map, All-replicate}
 use Rattle.words.specs.Words.{twosComplement32, signed32}
 use Rattle.words.specs.WordsLaws.{twosComplement32-lt, signed32-twosComplement32}
-use Rattle.profile.specs.Plan.{Plan, Content, gray, rgb, xyb, GoodCicp, GoodContent, GoodCurve, GoodIntent, Valid, kindOf, maxLetters}
+use Rattle.profile.specs.Plan.{Plan, Content, gray, rgb, xyb, GoodCicp, GoodContent, GoodCurve, GoodIntent, Valid, maxLetters}
 use Rattle.profile.specs.Numbers.{numbersFor, numbersOf, textFor, textOf}
 use Rattle.profile.specs.declared.Kind.{Kind}
 use Rattle.profile.specs.declared.Kind.the-variants.{Gray, Rgb, Xyb}
@@ -196,7 +196,7 @@ record HeldNumbers (i : ℕ) (c : Content) : Type 0 where
   columns : Nine (numbersFor i c .columns)
   letters : length (textFor c) ≤ maxLetters
 
-content-held : (i : ℕ) (c : Content) → GoodIntent (kindOf c) i → GoodContent (SFits w32) c → HeldNumbers i c
+content-held : (i : ℕ) (c : Content) → GoodIntent i → GoodContent (SFits w32) c → HeldNumbers i c
 content-held i (gray g) small h =
     record {
       intent = omega arith;

@@ -8,7 +8,11 @@ use lib.IntN.{ℤ, pos}
 use Rattle.words.specs.Words.{be16, be32}
 use Rattle.buffer.specs.Bytes.{zeros}
 use Rattle.buffer.specs.Ascii.{ascii}
+use Rattle.buffer.specs.Checked.{valueOr}
 use Rattle.md5.specs.Md5.{md5}
+use Rattle.color_encoding.specs.Intent.{intentName}
+use Rattle.color_encoding.specs.Codes.{intentFrom}
+use Rattle.color_encoding.specs.declared.RenderingIntent.the-variants.{Perceptual}
 use Rattle.xyb_constants.specs.XybNumbers as XybNumbers
 use Rattle.profile.specs.Signatures as Sig
 use Rattle.profile.specs.Elements.{Element, Slot, slot, file, fileLength}
@@ -33,9 +37,9 @@ tag s b = under (s ∷ []) b
 abbrev pub D50 : List ℤ
 D50 = pos 63190 ∷ pos 65536 ∷ pos 54061 ∷ []
 
--- the text of the XYB plan
-abbrev pub xybText : List ℕ
-xybText = ascii "XYB_Per"
+-- the text of the XYB plan with this intent (02, order 8); no plan has an intent above 3
+unfoldable pub xybText : ℕ → List ℕ
+xybText i = ascii "XYB_" ++ intentName (valueOr Perceptual (intentFrom i))
 
 -- each profile begins with its text, the copyright and a white
 abbrev pub firstElements : List ℕ → List ℤ → List Element
@@ -56,7 +60,7 @@ abbrev pub elementsFor : ℕ → Content → List Element
 elementsFor i (gray g) = firstElements (g .text) (g .white-x ∷ pos 65536 ∷ g .white-z ∷ []) ++ (tag Sig.kTRC (curve (g .curve)) ∷ [])
 elementsFor i (rgb g) =
     firstElements (g .text) D50 ++ (tag Sig.chad (sf32 (g .chad)) ∷ (cicpElement (g .curve) (g .cicp) ++ colorElements (g .columns) (g .curve)))
-elementsFor i xyb = firstElements xybText D50 ++ (tag Sig.chad (sf32 XybNumbers.chad) ∷ tag Sig.A2B0 a2b0 ∷ tag Sig.B2A0 b2a0 ∷ [])
+elementsFor i xyb = firstElements (xybText i) D50 ++ (tag Sig.chad (sf32 XybNumbers.chad) ∷ tag Sig.A2B0 a2b0 ∷ tag Sig.B2A0 b2a0 ∷ [])
 
 unfoldable pub elements : Plan → List Element
 elements p = elementsFor (p .intent) (p .content)

@@ -4,7 +4,7 @@
 use Prim.Native.Nat.{ℕ, _+_, _≤_}
 use mathlib.Core.Path.{_≡_, refl, ap, ap₂, sym, _∙_}
 use mathlib.Core.Bool.{Bool, true, false, cond}
-use mathlib.Core.List.{List, [], _++_, append-assoc, append-nil}
+use mathlib.Core.List.{List, [], _∷_, _++_, append-assoc, append-nil}
 use lib.ListN.{length, length-append, drop}
 use lib.Seq.{take-at, drop-at, drop-drop}
 use lib.IntN.{ℤ}
@@ -112,15 +112,31 @@ header-put-device k v a b r =
     ∙ put-over before (be32 (v .maker) ++ be32 (v .model)) rest (be32 a ++ be32 b) 48 (rw (length-append, length-beforeFlags k (v .size)) refl) (simp (length-append, length-be32))
     ∙ sym (up-to a b)
 
-pub header-put-intent : (k : Kind) (v : Layout.Varying) (j : ℕ) (r : List ℕ)
-    → put (Layout.header k v ++ r) 64 (be32 j) ≡ Layout.header k (withIntent j v) ++ r
-header-put-intent k v j r =
-    let before : List ℕ = beforeFlags k (v .size) ++ (zeros 4 ++ deviceFields (v .maker) (v .model)) in
-    let rest : List ℕ = beforeId ++ (v .id ++ (zeros 28 ++ r)) in
-    let up-to : (m : ℕ) → Layout.header k (withIntent m v) ++ r ≡ before ++ (be32 m ++ rest) = λ m. parts k (withIntent m v) r ∙ simp append-assoc in
-    ap (λ (l : List ℕ). put l 64 (be32 j)) (up-to (v .intent))
-    ∙ put-over before (be32 (v .intent)) rest (be32 j) 64 (simp (length-append, length-beforeFlags, length-deviceFields)) (length-be32 j ∙ sym (length-be32 (v .intent)))
-    ∙ sym (up-to j)
+module _ (k : Kind) (v : Layout.Varying) (j : ℕ) (r : List ℕ) where
+  abbrev beforeIntent : List ℕ
+  beforeIntent = beforeFlags k (v .size) ++ (zeros 4 ++ deviceFields (v .maker) (v .model))
+
+  abbrev afterIntent : List ℕ
+  afterIntent = beforeId ++ (v .id ++ (zeros 28 ++ r))
+
+  up-to-intent : (m : ℕ) → Layout.header k (withIntent m v) ++ r ≡ beforeIntent ++ (be32 m ++ afterIntent)
+  up-to-intent m = parts k (withIntent m v) r ∙ simp append-assoc
+
+  pub header-put-intent : put (Layout.header k v ++ r) 64 (be32 j) ≡ Layout.header k (withIntent j v) ++ r
+  header-put-intent =
+      ap (λ (l : List ℕ). put l 64 (be32 j)) (up-to-intent (v .intent))
+      ∙ put-over beforeIntent (be32 (v .intent)) afterIntent (be32 j) 64 (simp (length-append, length-beforeFlags, length-deviceFields)) (length-be32 j ∙ sym (length-be32 (v .intent)))
+      ∙ sym (up-to-intent j)
+
+  -- an intent below 256 has three zeros before its byte
+  pub header-put-byte-67 : be32 (v .intent) ≡ zeros 3 ++ (v .intent ∷ []) → be32 j ≡ zeros 3 ++ (j ∷ [])
+      → put (Layout.header k v ++ r) 67 (j ∷ []) ≡ Layout.header k (withIntent j v) ++ r
+  header-put-byte-67 one other =
+      let up-to : (m : ℕ) → be32 m ≡ zeros 3 ++ (m ∷ []) → Layout.header k (withIntent m v) ++ r ≡ (beforeIntent ++ zeros 3) ++ ((m ∷ []) ++ afterIntent) =
+      λ m low. up-to-intent m ∙ ap (λ (b : List ℕ). beforeIntent ++ (b ++ afterIntent)) low ∙ simp append-assoc in
+      ap (λ (l : List ℕ). put l 67 (j ∷ [])) (up-to (v .intent) one)
+      ∙ put-over (beforeIntent ++ zeros 3) (v .intent ∷ []) afterIntent (j ∷ []) 67 (simp (length-append, length-beforeFlags, length-deviceFields)) refl
+      ∙ sym (up-to j other)
 
 pub header-put-id : (k : Kind) (v : Layout.Varying) (e r : List ℕ) → length (v .id) ≡ 16 → length e ≡ 16
     → put (Layout.header k v ++ r) 84 e ≡ Layout.header k (underId e v) ++ r

@@ -118,18 +118,16 @@ GoodContent N (gray g) = GoodGray N g
 GoodContent N (rgb g) = GoodRgb N g
 GoodContent N xyb = Unit {0}
 
--- XYB has the one intent, Perceptual
-abbrev pub GoodIntent : Kind → ℕ → Type 0
-GoodIntent Gray i = i ≤ 3
-GoodIntent Rgb i = i ≤ 3
-GoodIntent Xyb i = i ≡ 0
+-- each kind has the four rendering intents (7.2.15)
+abbrev pub GoodIntent : ℕ → Type 0
+GoodIntent i = i ≤ 3
 
 -- any four bytes
 abbrev pub FourBytes : ℕ → Type 0
 FourBytes n = n < 2 ^ 32
 
 pub record Good (N : ℤ → Type 0) (p : Plan) : Type 0 where
-  pub intent : GoodIntent (kind p) (p .intent)
+  pub intent : GoodIntent (p .intent)
   pub maker : FourBytes (p .maker)
   pub model : FourBytes (p .model)
   pub content : GoodContent N (p .content)

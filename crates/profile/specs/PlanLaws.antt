@@ -8,6 +8,7 @@ use lib.ListN.{length, take, drop, length-drop}
 use lib.Seq.{length-take-le}
 use lib.IntN.{ℤ}
 use Rattle.buffer.specs.All.{All, none, more}
+use Rattle.color_encoding.specs.IntentLaws.{length-intentName}
 use Rattle.xyb_constants.specs.XybNumbersLaws.{length-chad}
 use Rattle.profile.specs.Signatures as Sig
 use Rattle.profile.specs.Elements.{Element, slot, padding, start, bodySize, tagCount, fileLength}
@@ -44,6 +45,10 @@ slots-cicp : (c : Curve) (v : Cicp) (es : List Element) → map slot (Layout.cic
 slots-cicp c Absent es = refl
 slots-cicp c (Primaries v) es = ap (λ n. Shape.one Sig.cicp n ∷ map slot es) (length-cicp v c)
 
+pub length-xybText : (i : ℕ) → length (Layout.xybText i) ≡ Shape.xybLetters
+unfolding Layout.xybText
+length-xybText i = simp length-intentName
+
 pub slots-shape : (p : Plan.Plan) → Nines (p .content) → Layout.slots p ≡ Shape.slotsOf (Shape.shape p)
 unfolding Layout.elements Shape.slotsOf
 slots-shape p h = go (p .intent) (p .content) h
@@ -57,7 +62,7 @@ slots-shape p h = go (p .intent) (p .content) h
         let second : length (take 3 (drop 3 k)) ≡ 3 = length-take-le 3 (drop 3 k) (omega arith) in
         let third : length (drop 6 k) ≡ 3 = simp length-drop (omega arith) in
         simp (slots-cicp, length-mluc, length-xyz, length-sf32, length-curve, h .0, first, second, third)
-    go i xyb h = simp (length-mluc, length-xyz, length-sf32, length-chad, length-a2b0, length-b2a0)
+    go i xyb h = simp (length-mluc, length-xybText, length-xyz, length-sf32, length-chad, length-a2b0, length-b2a0)
 
 -- ---- a plan in code
 

@@ -23,7 +23,7 @@ abbrev pub hasCicp : Cicp → Bool
 hasCicp Absent = false
 hasCicp (Primaries v) = true
 
--- the letters of an XYB plan's text, as `XYB_Per` has
+-- the letters of an XYB plan's text: `XYB_` and the three of its intent's name
 abbrev pub xybLetters : ℕ
 xybLetters = 7
 

@@ -4,6 +4,7 @@ ghost use Prim.Native.Nat.{ℕ};
 ghost use mathlib.Core.Path.{_≡_};
 ghost use mathlib.Core.List.{List};
 ghost use lib.ListN.{length};
+ghost use Rattle.profile.specs.Layout as Layouts;
 ghost use Rattle.profile.specs.Numbers as Plans;
 ghost use Rattle.profile.specs.Shape as Shapes;
 
@@ -145,6 +146,18 @@ pub fn with_device(plan: Numbers, maker: u32, model: u32) -> Numbers
     r.maker = maker;
     r.model = model;
     r
+}
+
+// The text of an XYB plan with this intent. No plan has an intent above 3.
+pub fn xyb_text(intent: u32) -> [u8; XYB_LETTERS]
+    ensures { λ r. ⌜ r ≡ Layouts.xybText intent ⌝ }
+{
+    match intent {
+        1 => *b"XYB_Rel",
+        2 => *b"XYB_Sat",
+        3 => *b"XYB_Abs",
+        _ => *b"XYB_Per",
+    }
 }
 
 fn is_gamma(curve: Curve) -> bool

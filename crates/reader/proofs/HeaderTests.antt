@@ -33,8 +33,8 @@ module _ {k : Kind} {f : List ℕ} {b : Bool} {i : ℕ} (t : Tested k f b i) whe
   unfolding Header
   header-of n = same-if _ _ (sym (t .test) ∙ not-false b n)
 
-  pub headed : not b ≡ false → GoodIntent k i → Headed k f
-  headed n g = record { sized = t .sized; header = header-of n; intent = subst (GoodIntent k) (t .intent) g }
+  pub headed : not b ≡ false → GoodIntent i → Headed k f
+  headed n g = record { sized = t .sized; header = header-of n; intent = subst GoodIntent (t .intent) g }
 
   pub answer-23 : {r : Reading} → not b ≡ true → r ≡ refusedWith 23 → r ≡ reading (read f)
   unfolding Header
@@ -42,8 +42,8 @@ module _ {k : Kind} {f : List ℕ} {b : Bool} {i : ℕ} (t : Tested k f b i) whe
       let fails : b ≡ false = not-true b n in
       e ∙ sym (ap reading (read-23 k f (t .sized) (λ h. let holds : b ≡ true = t .test ∙ same-of h in let z : _≡_ {A = ℕ} 0 1 = cc in absurd (omega arith))))
 
-  pub answer-24 : {r : Reading} → not b ≡ false → ¬ (GoodIntent k i) → r ≡ refusedWith 24 → r ≡ reading (read f)
-  answer-24 n g e = e ∙ sym (ap reading (read-24 k f (t .sized) (header-of n) (λ h. g (subst (GoodIntent k) (sym (t .intent)) h))))
+  pub answer-24 : {r : Reading} → not b ≡ false → ¬ (GoodIntent i) → r ≡ refusedWith 24 → r ≡ reading (read f)
+  answer-24 n g e = e ∙ sym (ap reading (read-24 k f (t .sized) (header-of n) (λ h. g (subst GoodIntent (sym (t .intent)) h))))
 
 pub answer-table : {k : Kind} {f : List ℕ} {r : Reading} → Headed k f → r ≡ reading (fromTable f) → r ≡ reading (read f)
 answer-table {k} {f} h e = e ∙ sym (ap reading (read-table k f h))

@@ -5,7 +5,7 @@ use comparisons::header_is;
 use comparisons::table_is;
 pub use finder::find;
 pub use finder::find_line;
-use plan_checks::intent_is;
+use plan_checks::intent_is_good;
 use profile::MAX_LETTERS;
 use profile::Shape;
 use reader_checks::plan_answer;
@@ -49,7 +49,7 @@ pub fn read(file: &[u8]) -> Reading
     if !header_is(file, kind, intent) {
         return refused(reader_checks::WRONG_HEADER);
     }
-    if !intent_is(kind, intent) {
+    if !intent_is_good(intent) {
         return refused(reader_checks::WRONG_INTENT);
     }
     let shape = fields::shape_in(file, kind);

@@ -15,7 +15,6 @@ use Rattle.profile.specs.Elements.{table, body, fileLength}
 use Rattle.profile.specs.Plan
 use Rattle.profile.specs.Plan.{gray, rgb, xyb}
 use Rattle.profile.specs.declared.Kind.{Kind}
-use Rattle.profile.specs.declared.Kind.the-variants.{Gray, Rgb, Xyb}
 use Rattle.profile.specs.Layout.{elements, slots}
 use Rattle.profile.specs.Shape.{slotsOf, NotBoth, GoodShape}
 use Rattle.profile.specs.declared.Shape.{Shape}
@@ -86,10 +85,8 @@ module _ (N : ℤ → Type 0) (d : (z : ℤ) → Dec (N z)) where
       (both (ℕ-discrete (length (g .columns)) 9) (both (each N d (g .columns)) (cicp (g .curve) (g .cicp))))))
   content xyb = yes tt
 
-pub intent : (k : Kind) (i : ℕ) → Dec (Plan.GoodIntent k i)
-intent Gray i = decLe i 3
-intent Rgb i = decLe i 3
-intent Xyb i = ℕ-discrete i 0
+pub intent : (i : ℕ) → Dec (Plan.GoodIntent i)
+intent i = decLe i 3
 
 pub in-range : (z : ℤ) → Dec (Plan.InRange z)
 in-range z = decLe (natAbs z) _

@@ -15,7 +15,7 @@ use Rattle.buffer.specs.Bytes.{zeros, same}
 use Rattle.buffer.specs.All.{All, none, more}
 use Rattle.profile.specs.Elements.{start, tagCount, table, entries, body, file, fileLength}
 use Rattle.profile.specs.ElementsLaws.{Fours}
-use Rattle.profile.specs.Plan.{Plan, Content, gray, rgb, xyb, plainPlan, withDevice, withMark, kind, FourBytes, GoodCurve, GoodContent, GoodIntent, Good, InRange, Valid, Wide}
+use Rattle.profile.specs.Plan.{Plan, Content, gray, rgb, xyb, plainPlan, withDevice, withMark, kind, FourBytes, GoodCurve, GoodContent, Good, InRange, Valid, Wide}
 use Rattle.profile.specs.declared.Kind.{Kind}
 use Rattle.profile.specs.declared.Kind.the-variants.{Gray, Rgb, Xyb}
 use Rattle.profile.specs.PlanLaws.{good-nines, slots-shape}
@@ -88,7 +88,7 @@ module _ (k : Kind) (v : Varying) (r : List ℕ) where
   unfolding join
   header-id h = ap (take 16) (from-id ∙ append-assoc (v .id) (join (zeros 28 ∷ [])) r) ∙ take-at (v .id) _ 16 h
 
-  header-varying : Fits v → varyingOf (header k v ++ r) ≡ v
+  pub header-varying : Fits v → varyingOf (header k v ++ r) ≡ v
   unfolding varyingOf header
   header-varying h = λ i.
       record {
@@ -124,11 +124,6 @@ header-kind Xyb v r = let h = class-and-space Xyb v r in rw (h .0, h .1)
 
 -- ---- a plan's file, under any id
 
-intent-small : (k : Kind) (i : ℕ) → GoodIntent k i → FourBytes i
-intent-small Gray i h = omega arith
-intent-small Rgb i h = omega arith
-intent-small Xyb i h = omega arith
-
 module _ (N : ℤ → Type 0) (p : Plan) (g : Good N p) where
   pub fours : Fours (slots p)
   fours = plan-fours p (good-nines N (p .content) (g .content))
@@ -144,7 +139,7 @@ module _ (N : ℤ → Type 0) (p : Plan) (g : Good N p) where
 
 module _ (N : ℤ → Type 0) (p : Plan) (g : Good N p) (id : List ℕ) (sixteen : length id ≡ 16) where
   says : Fits (varying (fileLength (slots p)) id p)
-  says = record { size = small N p g; maker = g .maker; model = g .model; intent = intent-small (kind p) (p .intent) (g .intent); id = sixteen }
+  says = record { size = small N p g; maker = g .maker; model = g .model; intent = omega (arith, g .intent); id = sixteen }
 
   pub length-file : length (withId id p) ≡ fileLength (slots p)
   length-file =

@@ -44,5 +44,5 @@ read f =
     check (decLe 132 (length f)) c21
     (check (ℕ-discrete (varyingOf f .size) (length f)) c22
     (check (Decide.header-is (kindFrom f) f) c23
-    (check (Decide.intent (kindFrom f) (varyingOf f .intent)) c24
+    (check (Decide.intent (varyingOf f .intent)) c24
     (fromTable f))))

@@ -52,14 +52,11 @@ different e h = true≢false (sym (same-of h) ∙ e)
 -- ---- each test is its check
 
 module _ (f : List ℕ) (ok21 : RefusalList.Ok21 f) where
-  kind-is : (k : Kind) → RefusalList.Header k f → kindFrom f ≡ k
+  pub kind-is : (k : Kind) → RefusalList.Header k f → kindFrom f ≡ k
   kind-is k h = ap kindFrom (after-header f ok21 k h) ∙ header-kind k (varyingOf f) (drop 128 f)
 
   from-23 : RefusalList.Ok23 f → RefusalList.Header (kindFrom f) f
   from-23 a = rw (kind-is (a .kind) (a .header)) (a .header)
-
-  from-24 : RefusalList.Ok24 f → GoodIntent (kindFrom f) (varyingOf f .intent)
-  from-24 a = rw (kind-is (a .kind) (a .header)) (a .intent)
 
   kind-of-shape : shapeIn f .kind ≡ kindFrom f
   unfolding shapeIn
@@ -99,7 +96,7 @@ module _ (f : List ℕ) (ok21 : RefusalList.Ok21 f) where
       })
 
   module _ (ok22 : RefusalList.Ok22 f) where
-    to-26 : RefusalList.Header (kindFrom f) f → GoodIntent (kindFrom f) (varyingOf f .intent) → BodyIs (planIn f) f → RefusalList.Ok26 f
+    to-26 : RefusalList.Header (kindFrom f) f → GoodIntent (varyingOf f .intent) → BodyIs (planIn f) f → RefusalList.Ok26 f
     unfolding planIn
     to-26 h i b =
         let s : Shape = shapeIn f in
@@ -107,7 +104,7 @@ module _ (f : List ℕ) (ok21 : RefusalList.Ok21 f) where
         let k : kind (planIn f) ≡ kindFrom f = content-kind (s .kind) s (elementIn f) ∙ kind-of-shape in
         record {
           plan = planIn f;
-          wide = record { intent = subst (λ x. GoodIntent x (varyingOf f .intent)) (sym k) i; maker = fits .0; model = fits .1; content = b .good };
+          wide = record { intent = i; maker = fits .0; model = fits .1; content = b .good };
           has = record { header = subst (λ x. RefusalList.Header x f) (sym k) h; maker = refl; model = refl; intent = refl; table = b .table; body = b .body };
         }
 
@@ -162,11 +159,11 @@ module _ (f : List ℕ) (ok21 : RefusalList.Ok21 f) where
     unfolding fromRange
     from-range a = step f (Decide.content InRange Decide.in-range (planIn f .content)) RefusalList.c27 _ _ (to-27 a) from-27 from-id
 
-    from-body : RefusalList.Header (kindFrom f) f → GoodIntent (kindFrom f) (varyingOf f .intent) → From f (RefusalList.c26 ∷ RefusalList.c27 ∷ RefusalList.c28 ∷ []) (fromBody f)
+    from-body : RefusalList.Header (kindFrom f) f → GoodIntent (varyingOf f .intent) → From f (RefusalList.c26 ∷ RefusalList.c27 ∷ RefusalList.c28 ∷ []) (fromBody f)
     unfolding fromBody
     from-body h i = step f (Decide.body-is (planIn f) f) RefusalList.c26 _ _ (to-26 h i) from-26 from-range
 
-    from-table : RefusalList.Header (kindFrom f) f → GoodIntent (kindFrom f) (varyingOf f .intent)
+    from-table : RefusalList.Header (kindFrom f) f → GoodIntent (varyingOf f .intent)
         → From f (RefusalList.c25 ∷ RefusalList.c26 ∷ RefusalList.c27 ∷ RefusalList.c28 ∷ []) (fromTable f)
     unfolding fromTable
     from-table h i = step f (Decide.table-is (shapeIn f) f) RefusalList.c25 _ _ (to-25 h) from-25 (λ a. from-body h i)
@@ -182,5 +179,5 @@ answered f =
     (step f (decLe 132 (length f)) RefusalList.c21 _ _ (λ h. record { long = h }) (λ a. a .long) (λ a1.
     step f (ℕ-discrete (varyingOf f .size) (length f)) RefusalList.c22 _ _ (λ h. record { size = h }) (λ a. a .size) (λ a2.
     step f (Decide.header-is (kindFrom f) f) RefusalList.c23 _ _ (λ h. record { kind = kindFrom f; header = h }) (from-23 f a1) (λ a3.
-    step f (Decide.intent (kindFrom f) (varyingOf f .intent)) RefusalList.c24 _ _ (λ h. record { kind = kindFrom f; header = from-23 f a1 a3; intent = h }) (from-24 f a1) (λ a4.
-    from-table f a1 a2 (from-23 f a1 a3) (from-24 f a1 a4))))))
+    step f (Decide.intent (varyingOf f .intent)) RefusalList.c24 _ _ (λ h. record { intent = h }) (λ a. a .intent) (λ a4.
+    from-table f a1 a2 (from-23 f a1 a3) (a4 .intent))))))

@@ -31,9 +31,7 @@ pub record Ok23 (f : List ℕ) : Type 0 where
   pub header : Header kind f
 
 pub record Ok24 (f : List ℕ) : Type 0 where
-  pub kind : Kind
-  pub header : Header kind f
-  pub intent : GoodIntent kind (varyingOf f .intent)
+  pub intent : GoodIntent (varyingOf f .intent)
 
 -- some plan of this class and space gives this tag table and length. Here and in 26 and 27 its mark is left aside: it changes nothing but the id
 pub record Ok25 (f : List ℕ) : Type 0 where

@@ -137,7 +137,7 @@ passes-before p v id sixteen =
     let a1 : RefusalList.Ok21 f = record { long = omega (arith, n, length-slots (SFits w32) p w, layout-bounds (SFits w32) p w) } in
     let a2 : RefusalList.Ok22 f = record { size = ap (λ v. v .size) (varying-withId (SFits w32) p w id sixteen) ∙ sym n } in
     let a3 : RefusalList.Ok23 f = record { kind = kind p; header = h .header } in
-    let a4 : RefusalList.Ok24 f = record { kind = kind p; header = h .header; intent = rw (h .intent) (v .intent) } in
+    let a4 : RefusalList.Ok24 f = record { intent = rw (h .intent) (v .intent) } in
     let a5 : RefusalList.Ok25 f = record { plan = p; valid = v; header = h .header; table = h .table; length-is = n } in
     let a6 : RefusalList.Ok26 f = record { plan = p; wide = w; has = h } in
     let a7 : RefusalList.Ok27 f = record { plan = p; valid = v; has = h } in

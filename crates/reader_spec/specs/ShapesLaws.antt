@@ -7,7 +7,7 @@ use native.Mathlib.Omega.{arith}
 use lib.IntN.{pos}
 use lib.ListN.{replicate, length-replicate}
 use Rattle.buffer.specs.AllLaws.{All-replicate}
-use Rattle.profile.specs.Plan.{maxLetters, Plan, Content, gray, rgb, xyb, plainPlan, kindOf, GoodText, GoodCurve, GoodCicp, GoodContent, GoodIntent, InRange, Valid}
+use Rattle.profile.specs.Plan.{maxLetters, Plan, Content, gray, rgb, xyb, plainPlan, kindOf, GoodText, GoodCurve, GoodCicp, GoodContent, InRange, Valid}
 use Rattle.profile.specs.declared.Kind.{Kind}
 use Rattle.profile.specs.declared.Kind.the-variants.{Gray, Rgb, Xyb}
 use Rattle.profile.specs.PlanLaws.{good-nines, slots-shape}
@@ -67,15 +67,10 @@ good-content Rgb n g v p q r =
     }
 good-content Xyb n g v p q r = tt
 
-good-intent : (k : Kind) (n : ℕ) (g v : Bool) → GoodIntent (kindOf (contentFor k n g v)) 0
-good-intent Gray n g v = omega arith
-good-intent Rgb n g v = omega arith
-good-intent Xyb n g v = refl
-
 pub plain-valid : (s : Shape) → GoodShape s → Valid (plain s)
 plain-valid s g =
     record {
-      intent = good-intent (s .kind) (s .letters) (s .gamma) (s .cicp);
+      intent = omega arith;
       maker = omega arith;
       model = omega arith;
       content = good-content (s .kind) (s .letters) (s .gamma) (s .cicp) (g .some-letter) (g .short) (g .pair);

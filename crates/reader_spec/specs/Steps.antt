@@ -23,7 +23,7 @@ pub record Sized (k : Kind) (f : List ℕ) : Type 0 where
 pub record Headed (k : Kind) (f : List ℕ) : Type 0 where
   pub sized : Sized k f
   pub header : Header k f
-  pub intent : GoodIntent k (varyingOf f .intent)
+  pub intent : GoodIntent (varyingOf f .intent)
 
 -- to 25, and the shape is known
 pub record Tabled (s : Shape) (f : List ℕ) : Type 0 where

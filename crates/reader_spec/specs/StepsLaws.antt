@@ -44,16 +44,16 @@ unfolding read
 read-22 f l h = passed _ _ _ l ∙ failed _ _ _ h
 
 module _ (k : Kind) (f : List ℕ) (s : Sized k f) where
-  to-header : read f ≡ check (Decide.header-is k f) RefusalList.c23 (check (Decide.intent k (varyingOf f .intent)) RefusalList.c24 (fromTable f))
+  to-header : read f ≡ check (Decide.header-is k f) RefusalList.c23 (check (Decide.intent (varyingOf f .intent)) RefusalList.c24 (fromTable f))
   unfolding read
   to-header =
       passed _ _ _ (s .long) ∙ passed _ _ _ (s .size)
-      ∙ ap (λ x. check (Decide.header-is x f) RefusalList.c23 (check (Decide.intent x (varyingOf f .intent)) RefusalList.c24 (fromTable f))) (s .kind-is)
+      ∙ ap (λ x. check (Decide.header-is x f) RefusalList.c23 (check (Decide.intent (varyingOf f .intent)) RefusalList.c24 (fromTable f))) (s .kind-is)
 
   pub read-23 : ¬ (RefusalList.Header k f) → read f ≡ RefusalList.refused RefusalList.c23
   read-23 h = to-header ∙ failed _ _ _ h
 
-  pub read-24 : RefusalList.Header k f → ¬ (GoodIntent k (varyingOf f .intent)) → read f ≡ RefusalList.refused RefusalList.c24
+  pub read-24 : RefusalList.Header k f → ¬ (GoodIntent (varyingOf f .intent)) → read f ≡ RefusalList.refused RefusalList.c24
   read-24 g h = to-header ∙ passed _ _ _ g ∙ failed _ _ _ h
 
 pub read-table : (k : Kind) (f : List ℕ) → Headed k f → read f ≡ fromTable f

@@ -157,7 +157,7 @@ module _ (front : List ℕ) (bs : Bytes front) (l : List ℕ) (more : maxLength 
       (λ h. together (ℕ-discrete _ _) (ℕ-discrete _ _) (λ e. sized) (λ e. size-head ∙ sym length-head) Reader.c22
       (λ e. rw (same-kind, same-intent)
       (together (Decide.header-is (kindFrom l) head) (Decide.header-is (kindFrom l) l) (header-to (kindFrom l)) (header-from (kindFrom l)) Reader.c23
-      (λ g. together (Decide.intent (kindFrom l) (varyingOf l .intent)) (Decide.intent (kindFrom l) (varyingOf l .intent)) (λ x. x) (λ x. x) Reader.c24
+      (λ g. together (Decide.intent (varyingOf l .intent)) (Decide.intent (varyingOf l .intent)) (λ x. x) (λ x. x) Reader.c24
       (λ i. no-head ∙ sym no-whole)))))
 
   -- ---- as code has it

@@ -571,7 +571,7 @@ fn main() {
         tally[FIRST] = 1;
     }
     print_tally(
-        b"m #M of #m\nb #B of #b\nf #F of #f\nn #N of #n\nt #T of #t\nc #C of #c\ng #G of #g\ne #E of #e\nr #R of #r\nj #J of #j\nwriter refused 1: #\x01, 2: #\x02, 3: #\x03, 4: #\x04, 5: #\x05, 6: #\x06, 7: #\x07, 8: #\x08, 9: #\x09\nreader refused 21: #\x15, 22: #\x16, 23: #\x17, 24: #\x18, 25: #\x19, 26: #\x1a, 27: #\x1b, 28: #\x1c\njob refused 41: #\x29, 42: #\x2a, 43: #\x2b\nfirst line that differs #\xff\n",
+        b"m #M of #m\nb #B of #b\nf #F of #f\nn #N of #n\nt #T of #t\nc #C of #c\ng #G of #g\ne #E of #e\nr #R of #r\nj #J of #j\nwriter refused 1: #\x01, 3: #\x03, 4: #\x04, 5: #\x05, 6: #\x06, 7: #\x07, 8: #\x08, 9: #\x09\nreader refused 21: #\x15, 22: #\x16, 23: #\x17, 24: #\x18, 25: #\x19, 26: #\x1a, 27: #\x1b, 28: #\x1c\njob refused 41: #\x29, 42: #\x2a, 43: #\x2b\nfirst line that differs #\xff\n",
         &tally,
     );
 }

@@ -6,7 +6,7 @@ use lib.IntN.{ℤ, pos}
 use lib.Ieee.{Float, ofBits}
 use lib.ListN.{length, length-append}
 use Rattle.buffer.specs.Checked.{Checked, is, valueOr, then}
-use Rattle.buffer.specs.CheckedLaws.{never, both}
+use Rattle.buffer.specs.CheckedLaws.{both}
 use Rattle.floats.specs.Binary32.{one}
 use Rattle.numbers.specs.Fixed.{s15Fixed16, fixedOr, numberOf, fixedNumber}
 use Rattle.numbers.specs.FixedLaws.{number-if, fixedNumbers-are}
@@ -15,7 +15,6 @@ use Rattle.color_encoding.specs.Coordinates.{whiteXy, primariesXy}
 use Rattle.color_encoding.specs.declared.WhiteXy.{WhiteXy}
 use Rattle.color_encoding.specs.declared.PrimariesXy.{PrimariesXy}
 use Rattle.color_encoding.specs.declared.JxlTransferFunction.{JxlTransferFunction}
-use Rattle.color_encoding.specs.declared.RenderingIntent.the-variants.{Perceptual, Relative, Saturation, Absolute}
 use Rattle.color_encoding.specs.declared.JxlColorEncoding.{JxlColorEncoding}
 use Rattle.color_encoding.specs.declared.JxlColorEncoding.the-variants.{RgbColorSpace, GrayscaleColorSpace, XYB}
 use Rattle.white_point.specs.GrayWhite.{cieXyzFromWhiteCieXy}
@@ -24,7 +23,7 @@ use Rattle.adaptation.specs.Adapt.{chadMatrix}
 use Rattle.colorimetry.specs.Primaries.{createIccRgbMatrix}
 use Rattle.xyb_constants.specs.XybNumbers as Xyb
 use Rattle.xyb_constants.specs.XybNumbersLaws as XybLaws
-use Rattle.profile.specs.Plan.{Plan, Content, gray, rgb, xyb, plainPlan}
+use Rattle.profile.specs.Plan.{Plan, Content, gray, rgb, xyb}
 use Rattle.profile.specs.PlanLaws.{Nines}
 use Rattle.profile.specs.Layout.{D50}
 use Rattle.profile.specs.FixedConstants.{d50Floats, d50-rounded, parameters-rounded}
@@ -36,7 +35,7 @@ use Rattle.encoding_curve.specs.declared.SupportedCurve.{SupportedCurve}
 use Rattle.encoding_curve.specs.declared.SupportedCurve.the-variants as Supported
 use Rattle.encoding_numbers.specs.NumbersOf.{grayNumbers, chadNumbers, columnNumbers, grayFloats, chadFloats, columnFloats}
 use Rattle.encoding_plan.specs.FixedFloats.{transferFloats, fixedFloats}
-use Rattle.encoding_plan.specs.PlanOf.{planOf}
+use Rattle.encoding_plan.specs.PlanOf.{xybPlan, planOf}
 use Rattle.writer_laws.specs.PlanLaws.{chad-nine, columns-nine, gray-parts, rgb-parts}
 use Rattle.writer_laws.specs.FileNumbers.{curveNumbers, identityNumbers, fixedNumbers, byCurve, numberCount}
 
@@ -141,9 +140,6 @@ file-numbers (RgbColorSpace w q t i) {p} e =
     after (d50Floats ++ chad) columns (after d50Floats chad d50-rounded (chad-numbers (whiteXy w) (g .chad-is))) (column-numbers (primariesXy q) (whiteXy w) (g .columns-are)) in
     let floats = after (d50Floats ++ chad ++ columns) (transferFloats t) matrices (transfer-numbers t (g .support-is) (g .curve-is)) in
     subst (Numbers (RgbColorSpace w q t i)) (g .plan-is) (floats, (chad-nine (whiteXy w) (g .chad-is), columns-nine (primariesXy q) (whiteXy w) (g .columns-are)))
-file-numbers (XYB Perceptual) {p} e =
-    let same : plainPlan 0 xyb ≡ p = cc in
-    subst (Numbers (XYB Perceptual)) same (after d50Floats Xyb.fixedFloats d50-rounded xyb-numbers, tt)
-file-numbers (XYB Relative) e = absurd (never e)
-file-numbers (XYB Saturation) e = absurd (never e)
-file-numbers (XYB Absolute) e = absurd (never e)
+file-numbers (XYB i) {p} e =
+    let same : xybPlan i ≡ p = cc in
+    subst (Numbers (XYB i)) same (after d50Floats Xyb.fixedFloats d50-rounded xyb-numbers, tt)

@@ -1,18 +1,16 @@
 -- Every plan of an encoding that the writer accepts is one of 01's plans: its text has 1 to 372 bytes, each at most 127, its numbers are in
 -- range, nine and nine, and `cicp` stands beside a named curve only. The floats of the encoding are binary32 values, as those of the code are.
 -- Assumes nothing.
-use mathlib.Core.Path.{_≡_, refl}
+use mathlib.Core.Path.{_≡_}
 use native.Mathlib.Omega.{arith}
 use Rattle.buffer.specs.Checked.{is}
-use Rattle.buffer.specs.CheckedLaws.{never}
 use Rattle.color_encoding.specs.IntentLaws.{intentNumber-le}
 use Rattle.color_encoding.specs.Coordinates.{whiteXy, primariesXy}
-use Rattle.color_encoding.specs.declared.RenderingIntent.the-variants.{Perceptual, Relative, Saturation, Absolute}
 use Rattle.color_encoding.specs.declared.JxlColorEncoding.{JxlColorEncoding}
 use Rattle.color_encoding.specs.declared.JxlColorEncoding.the-variants.{RgbColorSpace, GrayscaleColorSpace, XYB}
 use Rattle.text.specs.Held.{HeldEncoding}
-use Rattle.profile.specs.Plan.{Plan, xyb, plainPlan, FourBytes, Valid}
-use Rattle.encoding_plan.specs.PlanOf.{planOf}
+use Rattle.profile.specs.Plan.{Plan, FourBytes, Valid}
+use Rattle.encoding_plan.specs.PlanOf.{xybPlan, planOf}
 use Rattle.encoding_plan.specs.EncodingPlan.{encodingPlan}
 use Rattle.encoding_plan.specs.EncodingPlanLaws.{from-color}
 use Rattle.encoding_plan.specs.declared.Encoding.{Encoding}
@@ -55,12 +53,9 @@ plan-valid (RgbColorSpace w q t i) held {p} e =
             cicp = cicp-good w q (g .curve);
           };
     })
-plan-valid (XYB Perceptual) held {p} e =
-    let same : plainPlan 0 xyb ≡ p = cc in
-    rw (← same) (record { intent = refl; maker = omega arith; model = omega arith; content = tt })
-plan-valid (XYB Relative) held e = absurd (never e)
-plan-valid (XYB Saturation) held e = absurd (never e)
-plan-valid (XYB Absolute) held e = absurd (never e)
+plan-valid (XYB i) held {p} e =
+    let same : xybPlan i ≡ p = cc in
+    rw (← same) (record { intent = intentNumber-le i; maker = omega arith; model = omega arith; content = tt })
 
 -- with any maker and model of four bytes
 pub encoding-plan-valid : (e : Encoding) → HeldEncoding (e .color) → FourBytes (e .maker) → FourBytes (e .model) → {q : Plan} → encodingPlan e ≡ is q → Valid q

@@ -20,7 +20,6 @@ use Rattle.matrix_inverse.specs.Inverse.{singular}
 use Rattle.color_encoding.specs.Coordinates.{whiteXy, primariesXy}
 use Rattle.color_encoding.specs.declared.WhiteXy.{WhiteXy}
 use Rattle.color_encoding.specs.declared.PrimariesXy.{PrimariesXy}
-use Rattle.color_encoding.specs.declared.RenderingIntent.the-variants.{Perceptual}
 use Rattle.color_encoding.specs.declared.JxlTransferFunction.{JxlTransferFunction}
 use Rattle.color_encoding.specs.declared.JxlTransferFunction.the-variants as F
 use Rattle.color_encoding.specs.declared.JxlColorEncoding.{JxlColorEncoding}
@@ -52,12 +51,6 @@ abbrev pub Ok1 : JxlColorEncoding → Type 0
 Ok1 (RgbColorSpace w p t i) = NeitherPqNorHlg t
 Ok1 (GrayscaleColorSpace w t i) = NeitherPqNorHlg t
 Ok1 (XYB i) = Unit {0}
-
--- 2: XYB has the intent Perceptual
-abbrev pub Ok2 : JxlColorEncoding → Type 0
-Ok2 (RgbColorSpace w p t i) = Unit {0}
-Ok2 (GrayscaleColorSpace w t i) = Unit {0}
-Ok2 (XYB i) = i ≡ Perceptual
 
 -- 3: not |wy| < 1e-12, compared in f32, of gray
 abbrev pub Ok3 : JxlColorEncoding → Type 0
@@ -120,11 +113,10 @@ Ok9 e n = (p : Plan) → planOf e ≡ is p → length (layout p) ≤ n
 -- ---- the checks in order
 
 pub data Check : Type 0 where
-  c1 c2 c3 c4 c5 c6 c7 c8 c9 : Check
+  c1 c3 c4 c5 c6 c7 c8 c9 : Check
 
 abbrev pub number : Check → ℕ
 number c1 = 1
-number c2 = 2
 number c3 = 3
 number c4 = 4
 number c5 = 5
@@ -135,7 +127,6 @@ number c9 = tooShort
 
 abbrev pub Passed : JxlColorEncoding → ℕ → Check → Type 0
 Passed e n c1 = Ok1 e
-Passed e n c2 = Ok2 e
 Passed e n c3 = Ok3 e
 Passed e n c4 = Ok4 e
 Passed e n c5 = Ok5 e
@@ -145,7 +136,7 @@ Passed e n c8 = Ok8 e
 Passed e n c9 = Ok9 e n
 
 abbrev pub checks : List Check
-checks = c1 ∷ c2 ∷ c3 ∷ c4 ∷ c5 ∷ c6 ∷ c7 ∷ c8 ∷ c9 ∷ []
+checks = c1 ∷ c3 ∷ c4 ∷ c5 ∷ c6 ∷ c7 ∷ c8 ∷ c9 ∷ []
 
 -- ---- the answer
 

@@ -1,4 +1,4 @@
--- The writer refuses an encoding by a number from 1 to 8 (01, the refusal list), and a written file has at least 284 bytes: so the one number that a C
+-- The writer refuses an encoding by a number from 1 to 8 (01, the refusal list), never by 2 (02, order 8), and a written file has at least 284 bytes: so the one number that a C
 -- call answers, with the count, tells the writer's answer. Assumes nothing.
 use Prim.Native.Nat.{ℕ, _≤_}
 use mathlib.Core.Path.{_≡_}

@@ -23,7 +23,7 @@ use Rattle.encoding_plan.specs.FixedFloats.{fixedFloats}
 use Rattle.writer.specs.Writer.{answer, number as numberOf, countAfter, profileBy, tooShort}
 use Rattle.writer.specs.declared.Profile.{Profile}
 use Rattle.writer.specs.declared.Profile.the-variants.{Written, Refused}
-use Rattle.writer_laws.specs.RefusalList.{Check, c1, c2, c3, c4, c5, c6, c7, c8, c9, number, Passed, checks, Answers, refuses, writes}
+use Rattle.writer_laws.specs.RefusalList.{Check, c1, c3, c4, c5, c6, c7, c8, c9, number, Passed, checks, Answers, refuses, writes}
 use Rattle.writer_laws.specs.WriterAnswersLaws.{answered}
 
 -- ---- the number of a refused encoding
@@ -32,7 +32,6 @@ module _ (e : JxlColorEncoding) {k : ℕ} (h : planOf e ≡ refused k) where
   -- a refused encoding has no profile that an output could be too short for
   before-output : (c : Check) → First (Passed e 0) checks c → (1 ≤ number c) × (number c ≤ 8)
   before-output c1 f = (lit≤ tt, lit≤ tt)
-  before-output c2 f = (lit≤ tt, lit≤ tt)
   before-output c3 f = (lit≤ tt, lit≤ tt)
   before-output c4 f = (lit≤ tt, lit≤ tt)
   before-output c5 f = (lit≤ tt, lit≤ tt)

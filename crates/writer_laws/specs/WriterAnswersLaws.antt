@@ -6,9 +6,8 @@ use mathlib.Core.List.{[], _∷_}
 use native.Mathlib.Omega.{arith}
 use lib.ListN.{length}
 use lib.Ieee.{Float, lt}
-use Rattle.buffer.specs.Checked.{is, refused}
+use Rattle.buffer.specs.Checked.{is}
 use Rattle.buffer.specs.CheckedLaws.{never}
-use Rattle.buffer.specs.First.{fails}
 use Rattle.buffer.specs.FirstLaws.{first-unique, first-not-all}
 use Rattle.floats.specs.Abs.{abs}
 use Rattle.floats.specs.Binary32.{_⊘_, one}
@@ -16,11 +15,9 @@ use Rattle.numbers.specs.Rounded.{roundedIn}
 use Rattle.linalg.specs.Linalg.{rows, columns}
 use Rattle.matrix_inverse.specs.Inverse.{singular}
 use Rattle.color_encoding.specs.Coordinates.{whiteXy, primariesXy}
-use Rattle.color_encoding.specs.Intent.{intentNumber}
 use Rattle.color_encoding.specs.declared.WhiteXy.{WhiteXy}
 use Rattle.color_encoding.specs.declared.PrimariesXy.{PrimariesXy}
 use Rattle.color_encoding.specs.declared.RenderingIntent.{RenderingIntent}
-use Rattle.color_encoding.specs.declared.RenderingIntent.the-variants.{Perceptual, Relative, Saturation, Absolute}
 use Rattle.color_encoding.specs.declared.JxlWhitePoint.{JxlWhitePoint}
 use Rattle.color_encoding.specs.declared.JxlPrimaries.{JxlPrimaries}
 use Rattle.color_encoding.specs.declared.JxlTransferFunction.{JxlTransferFunction}
@@ -33,12 +30,12 @@ use Rattle.adaptation.specs.Adapt.{adaptable, chadMatrix}
 use Rattle.adaptation.specs.AdaptLaws.{chad-given, chad-refused}
 use Rattle.colorimetry.specs.Primaries.{primariesMatrix, createIccRgbMatrix}
 use Rattle.colorimetry.specs.PrimariesLaws.{matrix-given, matrix-refused}
-use Rattle.profile.specs.Plan.{Plan, xyb, plainPlan}
+use Rattle.profile.specs.Plan.{Plan}
 use Rattle.profile.specs.declared.Curve.the-variants.{Named, Gamma}
 use Rattle.profile.specs.declared.CurveName.{CurveName}
 use Rattle.profile.specs.declared.CurveName.the-variants as Name
 use Rattle.encoding_plan.specs.Answers.{reciprocalRefusal}
-use Rattle.encoding_plan.specs.PlanOf.{supported, curveOf, cicpOf, grayPlan, rgbPlan, planOf}
+use Rattle.encoding_plan.specs.PlanOf.{supported, curveOf, cicpOf, grayPlan, rgbPlan, xybPlan, planOf}
 use Rattle.encoding_curve.specs.declared.SupportedCurve.{SupportedCurve}
 use Rattle.encoding_curve.specs.declared.SupportedCurve.the-variants as Supported
 use Rattle.encoding_plan.specs.FixedFloats.{fixedFloats, countedPlan}
@@ -46,7 +43,7 @@ use Rattle.profile.specs.Layout.{layout}
 use Rattle.writer.specs.Writer.{answer}
 use Rattle.writer.specs.declared.Profile.{Profile}
 use Rattle.writer.specs.declared.Profile.the-variants.{Written, Refused}
-use Rattle.writer_laws.specs.RefusalList.{Fits, NeitherPqNorHlg, ReciprocalFits, chadOf, matrixOf, grayX, grayZ, Check, c1, c2, c3, c4, c5, c6, c7, c8, c9, number, checks, Answers, refuses as refuses-by, writes as writes-it}
+use Rattle.writer_laws.specs.RefusalList.{Fits, NeitherPqNorHlg, ReciprocalFits, chadOf, matrixOf, grayX, grayZ, Check, c1, c3, c4, c5, c6, c7, c8, c9, number, checks, Answers, refuses as refuses-by, writes as writes-it}
 use Rattle.writer_laws.specs.RefusalListLaws.{Decides, passes, refuses, DecidesAs, decides-by, value-of, both-decide, fixed-decides, each-decides, test-decides, From, stops, writes, onward, step, step-as, apart, last}
 
 -- ---- the curve
@@ -108,15 +105,14 @@ module _ (w : JxlWhitePoint) (t : JxlTransferFunction) (i : RenderingIntent) (n 
   gray-answered =
       let xy = whiteXy w in
       step gray n c1 _ (supported-decides t) (λ s _ a.
-      onward gray n tt
-      (apart gray n (cieXyzFromWhiteCieXy xy) _ _
+      apart gray n (cieXyzFromWhiteCieXy xy) _ _
       (step-as gray n c3 (grayX xy ∷ one ∷ grayZ xy ∷ []) _ (white-decides xy) (λ _ b.
       onward gray n tt
       (onward gray n tt
       (onward gray n tt
       (step gray n c7 _ (both-decide (fixed-decides 7 (grayX xy)) (λ x. value-of (λ z. (x, z)) (fixed-decides 7 (grayZ xy)))) (λ xz _ c.
       step gray n c8 _ (curve-decides t s a) (λ k _ d.
-      last gray n (grayPlan gray i k xz) (rw (a, b, c, d) refl))))))))))
+      last gray n (grayPlan gray i k xz) (rw (a, b, c, d) refl)))))))))
 
 module _ (w : JxlWhitePoint) (p : JxlPrimaries) (t : JxlTransferFunction) (i : RenderingIntent) (n : ℕ) where
   abbrev color : JxlColorEncoding
@@ -129,7 +125,6 @@ module _ (w : JxlWhitePoint) (p : JxlPrimaries) (t : JxlTransferFunction) (i : R
       let ps = primariesXy p in
       step color n c1 _ (supported-decides t) (λ s _ a.
       onward color n tt
-      (onward color n tt
       (apart color n (chadMatrix xy) _ _
       (step-as color n c4 (chadOf xy) _ (chad-decides xy) (λ ok b.
       step color n c5 _ (each-decides 5 (rows (chadOf xy))) (λ m _ c.
@@ -137,29 +132,20 @@ module _ (w : JxlWhitePoint) (p : JxlPrimaries) (t : JxlTransferFunction) (i : R
       (step-as color n c6 (matrixOf ps xy) _ (matrix-decides ps xy ok) (λ _ d.
       step color n c7 _ (each-decides 7 (columns (matrixOf ps xy))) (λ k _ e.
       step color n c8 _ (curve-decides t s a) (λ v _ f.
-      last color n (rgbPlan color i v (cicpOf w p v) m k) (rw (a, b, c, d, e, f) refl)))))))))))
+      last color n (rgbPlan color i v (cicpOf w p v) m k) (rw (a, b, c, d, e, f) refl))))))))))
 
 pub xyb-answered : (i : RenderingIntent) (n : ℕ) → From (XYB i) n checks (answer (countedPlan (XYB i)) n)
 unfolding planOf
-xyb-answered i n = onward (XYB i) n tt (go i)
-  where
-    other : {i : RenderingIntent} → planOf (XYB i) ≡ refused 2 → i ≡ Perceptual → ⊥
-    other h e = never (sym h ∙ ap (λ (j : RenderingIntent). planOf (XYB j)) e)
-
-    go : (i : RenderingIntent) → From (XYB i) n (c2 ∷ c3 ∷ c4 ∷ c5 ∷ c6 ∷ c7 ∷ c8 ∷ c9 ∷ []) (answer (countedPlan (XYB i)) n)
-    go Perceptual =
-        let e = XYB Perceptual in
-        onward e n refl
-        (onward e n tt
-        (onward e n tt
-        (onward e n tt
-        (onward e n tt
-        (onward e n tt
-        (onward e n tt
-        (last e n (plainPlan (intentNumber Perceptual) xyb) refl)))))))
-    go Relative = stops (fails (other refl))
-    go Saturation = stops (fails (other refl))
-    go Absolute = stops (fails (other refl))
+xyb-answered i n =
+    let e = XYB i in
+    onward e n tt
+    (onward e n tt
+    (onward e n tt
+    (onward e n tt
+    (onward e n tt
+    (onward e n tt
+    (onward e n tt
+    (last e n (xybPlan i) refl)))))))
 
 -- ---- every encoding
 

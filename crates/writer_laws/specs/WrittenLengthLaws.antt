@@ -14,7 +14,7 @@ use Rattle.numbers.specs.Fixed.{fixedOr}
 use Rattle.color_encoding.specs.Intent.{intentName}
 use Rattle.color_encoding.specs.declared.RenderingIntent.{RenderingIntent}
 use Rattle.color_encoding.specs.Coordinates.{whiteXy, primariesXy}
-use Rattle.color_encoding.specs.declared.RenderingIntent.the-variants.{Perceptual, Relative, Saturation, Absolute}
+use Rattle.color_encoding.specs.declared.RenderingIntent.the-variants.{Perceptual, Relative}
 use Rattle.color_encoding.specs.declared.JxlWhitePoint.{JxlWhitePoint}
 use Rattle.color_encoding.specs.declared.JxlWhitePoint.the-variants as W
 use Rattle.color_encoding.specs.declared.JxlPrimaries.{JxlPrimaries}
@@ -29,7 +29,7 @@ use Rattle.text.specs.Description.{underscore, whiteName, primariesName, transf
 use Rattle.text.specs.Held.{HeldEncoding, HeldPrimaries, InRange}
 use Rattle.text.specs.Bounds.{length-in-range}
 use Rattle.text.specs.BoundsLaws.{length-white-in-range, length-rgb-text}
-use Rattle.profile.specs.Plan.{Plan, xyb, plainPlan, maxLetters}
+use Rattle.profile.specs.Plan.{Plan, maxLetters}
 use Rattle.profile.specs.Layout.{layout}
 use Rattle.profile.specs.LayoutLaws.{length-layout}
 use Rattle.profile.specs.Elements.{fileLength, start, bodySize, tagCount, padding}
@@ -40,7 +40,7 @@ use Rattle.profile.specs.declared.Curve.the-variants.{Named, Gamma}
 use Rattle.profile.specs.declared.CurveName.{CurveName}
 use Rattle.profile.specs.declared.CurveName.the-variants as Name
 use Rattle.encoding_plan.specs.Answers.{reciprocalRefusal}
-use Rattle.encoding_plan.specs.PlanOf.{supported, curveOf, cicpOf, grayPlan, rgbPlan, planOf}
+use Rattle.encoding_plan.specs.PlanOf.{supported, curveOf, cicpOf, grayPlan, rgbPlan, xybPlan, planOf}
 use Rattle.encoding_plan.specs.WhiteLaws.{white-in-range}
 use Rattle.writer.specs.Writer.{maxWritten}
 use Rattle.writer_laws.specs.PlanLaws.{chad-nine, columns-nine, gray-parts, rgb-parts}
@@ -149,10 +149,6 @@ at-most (RgbColorSpace w q t i) held {p} e =
     let plan = rgbPlan (RgbColorSpace w q t i) i (g .curve) (cicpOf w q (g .curve)) (g .chad) (g .columns) in
     rw (← g .plan-is, length-layout plan (chad-nine (whiteXy w) (g .chad-is), columns-nine (primariesXy q) (whiteXy w) (g .columns-are)))
     (rgb-most w q (length (description (RgbColorSpace w q t i))) (g .curve) (rgb-letters w q i (white-in-range w (g .chad-is)) (g .curve-is) t held (g .support-is)))
-at-most (XYB Perceptual) held {p} e =
-    let plan : Plan = plainPlan 0 xyb in
-    let same : plan ≡ p = cc in
-    rw (← same, length-layout plan tt) (lit≤ tt)
-at-most (XYB Relative) held e = absurd (never e)
-at-most (XYB Saturation) held e = absurd (never e)
-at-most (XYB Absolute) held e = absurd (never e)
+at-most (XYB i) held {p} e =
+    let same : xybPlan i ≡ p = cc in
+    rw (← same, length-layout (xybPlan i) tt) (lit≤ tt)

@@ -61,14 +61,14 @@ returns-3 c = answer-23 (tested (c .before .before)) (c .before .if3 .taken) (c 
 returns-4 : tie.Need-returns-4
 returns-4 c =
     let told = c .before .before in
-    answer-24 (tested (told .before .before)) (told .before .if3 .left) (decided-not _ (sym (told .intent-is .ensures) ∙ not-true _ (c .before .if4 .taken))) (c .refused4 .ensures)
+    answer-24 (tested (told .before .before)) (told .before .if3 .left) (decided-not _ (sym (told .intent-is-good .ensures) ∙ not-true _ (c .before .if4 .taken))) (c .refused4 .ensures)
 
 module _ (c : tie.Else4) where
   abbrev known : tie.After-read-u32-be2
   known = c .before .before .before .before
 
   passed : Headed (kind known) (file known)
-  passed = headed (tested (c .before .before .before)) (c .before .before .if3 .left) (decided-if _ (sym (c .before .intent-is .ensures) ∙ not-false _ (c .if4 .left)))
+  passed = headed (tested (c .before .before .before)) (c .before .before .if3 .left) (decided-if _ (sym (c .before .intent-is-good .ensures) ∙ not-false _ (c .if4 .left)))
 
 shape-is : (c : tie.After-shape-in) → shapeIn (file (known (c .before))) ≡ c .shape-in .result
 unfolding shapeIn
