@@ -5,7 +5,7 @@ use Prim.Native.Nat.{ℕ, _<_}
 use mathlib.Core.Path.{_≡_}
 use mathlib.Core.List.{List}
 use lib.ListN.{length, take}
-use Rattle.buffer.specs.Checked.{is}
+use Rattle.buffer.specs.Checked.{is, refused as refusedBy}
 use Rattle.color_encoding.specs.Intent.{intentNumber}
 use Rattle.color_encoding.specs.declared.RenderingIntent.{RenderingIntent}
 use Rattle.color_encoding.specs.declared.RenderingIntent.the-variants.{Perceptual}
@@ -20,6 +20,9 @@ use Rattle.writer.specs.declared.Profile.the-variants.{Written, Refused}
 use Rattle.reader_spec.specs.Table.{varyingOf}
 use Rattle.reader_spec.specs.RefusalList.{accepted, refused, c24, c26}
 use Rattle.reader_spec.specs.Read.{read}
+use Rattle.reading.specs.declared.Reading.{Reading}
+use Rattle.demands.specs.Told.{told}
+use Rattle.demands.specs.Demand3.{Reads}
 use Rattle.demands.specs.XybFiles.{xybPlanWith, oldXybFile, withByte67, patchedXyb}
 use Rattle.demands.specs.XybIntentsLaws as Laws
 
@@ -62,6 +65,11 @@ module _ (maker model : ℕ) (a : FourBytes maker) (b : FourBytes model) where
   pub another-text : (i j : RenderingIntent) → ¬ (i ≡ j) → (id : List ℕ) → length id ≡ 16
       → read (withByte67 i (withId id (xybPlanWith maker model j))) ≡ refused c26
   another-text i j other id sixteen = Laws.another-text maker model a b i j id sixteen other
+
+-- running code: what `maybe_create_profile` wrote for j, with i in byte 67, as `read` answers to it
+pub written-another : (maker model : ℕ) (i j : RenderingIntent) → ¬ (i ≡ j) → {n k : ℕ} (before after : List ℕ)
+    → Creates (encodingWith maker model (XYB j)) before after (Written n k) → (r : Reading) → Reads (withByte67 i (take n after)) r → told r ≡ refusedBy 26
+written-another maker model i j other before after w r reads = Laws.written-26 maker model i j other before after w r reads
 
 pub only-above-3 : (f : List ℕ) → read f ≡ refused c24 → 3 < varyingOf f .intent
 only-above-3 f h = Laws.only-above-3 f h

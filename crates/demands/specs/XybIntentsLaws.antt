@@ -13,21 +13,20 @@ use Rattle.buffer.specs.Ascii.{ascii}
 use Rattle.buffer.specs.Buffer.{put}
 use Rattle.buffer.specs.BufferLaws.{put-over}
 use Rattle.buffer.specs.Bytes.{zeros}
-use Rattle.buffer.specs.Checked.{is}
+use Rattle.buffer.specs.Checked.{is, refused as refusedBy}
 use Rattle.buffer.specs.First.{fails, later}
 use Rattle.buffer.specs.FirstLaws.{first-fails}
 use Rattle.color_encoding.specs.Intent.{intentNumber, intentName}
 use Rattle.color_encoding.specs.IntentLaws.{intentNumber-le, length-intentName}
 use Rattle.color_encoding.specs.declared.RenderingIntent.{RenderingIntent}
 use Rattle.color_encoding.specs.declared.RenderingIntent.the-variants.{Perceptual, Relative, Saturation, Absolute}
-use Rattle.color_encoding.specs.declared.JxlColorEncoding.{JxlColorEncoding}
 use Rattle.color_encoding.specs.declared.JxlColorEncoding.the-variants.{XYB}
 use Rattle.text.specs.Description.{description, xybText as describedXyb}
 use Rattle.xyb_constants.specs.XybNumbers as XybNumbers
 use Rattle.profile.specs.Signatures as Sig
-use Rattle.profile.specs.Elements.{Slot, padding, padded, body, bodySize, tagCount, start, table, file, fileLength}
+use Rattle.profile.specs.Elements.{padding, padded, body, bodySize, tagCount, start, table, file, fileLength}
 use Rattle.profile.specs.ElementsLaws.{length-table, length-file}
-use Rattle.profile.specs.Plan.{Plan, Content, gray, rgb, xyb, kindOf, FourBytes, InRange, Valid, Wide}
+use Rattle.profile.specs.Plan.{Plan, Content, gray, rgb, xyb, kindOf, FourBytes, InRange, Valid}
 use Rattle.profile.specs.PlanLaws.{slots-shape, fours}
 use Rattle.profile.specs.TagTypes.{join, utf16, mluc, xyz, sf32}
 use Rattle.profile.specs.TagTypesLaws.{length-utf16}
@@ -35,7 +34,7 @@ use Rattle.profile.specs.Shape.{slotsOf, xybShape}
 use Rattle.profile.specs.Xyb.{a2b0, b2a0}
 use Rattle.profile.specs.Layout.{Varying, tag, D50, xybText, elementsFor, elements, slots, header, varying, withId, profileId, computedId, layout}
 use Rattle.profile.specs.LayoutLaws.{length-header, length-computed, length-layout, header-put-byte-67, plan-fours, put-id, any-id, layout-computed}
-use Rattle.profile.specs.declared.Kind.the-variants.{Gray, Rgb, Xyb}
+use Rattle.profile.specs.declared.Kind.the-variants.{Xyb}
 use Rattle.encoding_plan.specs.PlanOf.{planOf}
 use Rattle.encoding_plan.specs.EncodingPlan.{encodingWith, encodingPlan, countedEncodingPlan}
 use Rattle.encoding_plan.specs.declared.Encoding.{Encoding}
@@ -47,12 +46,16 @@ use Rattle.writer_laws.specs.RefusalList as Writing
 use Rattle.writer_laws.specs.WriterAnswersLaws.{answered}
 use Rattle.reader_spec.specs.Table.{varyingOf, tableOf, bodyOf}
 use Rattle.reader_spec.specs.TableLaws.{table-file, body-file}
-use Rattle.reader_spec.specs.FileLaws.{header-varying, header-kind, small, computed-exists}
+use Rattle.reader_spec.specs.FileLaws.{header-varying, small, computed-exists}
 use Rattle.reader_spec.specs.RefusalList.{Header, Ok21, Ok22, Ok23, Ok24, Ok25, Ok26, FirstFailing, checks, Answers, accepted, refused, refuses, c24, c26}
 use Rattle.reader_spec.specs.Read.{read}
 use Rattle.reader_spec.specs.ReadLaws.{kind-is}
 use Rattle.reader_spec.specs.ReadAnswers.{read-answers, read-is}
 use Rattle.reader_spec.specs.Accepts.{accepts-exactly}
+use Rattle.reading.specs.Reading.{reading}
+use Rattle.reading.specs.declared.Reading.{Reading}
+use Rattle.demands.specs.Told.{told}
+use Rattle.demands.specs.ToldLaws.{refusal-told}
 use Rattle.demands.specs.Demand3.{written}
 use Rattle.demands.specs.XybFiles.{xybPlanWith, oldXybElements, oldXybWithId, oldXybFile, withByte67, withLetters, patchedXyb}
 
@@ -135,13 +138,15 @@ module _ (maker model : ℕ) where
   pub length-720 : (i : RenderingIntent) → length (layout (plan i)) ≡ 720
   length-720 i = length-layout (plan i) tt ∙ length-file-xyb
 
+  length-slots : (i : RenderingIntent) → fileLength (slots (plan i)) ≡ 720
+  length-slots i = ap fileLength (slots-shape (plan i) tt) ∙ length-file-xyb
+
   -- ---- before the order
 
   old-under : (id : List ℕ) → withId id (plan Perceptual) ≡ oldXybWithId id maker model
   unfolding withId oldXybWithId elements xybText
   old-under id =
-      ap (λ (n : ℕ). file (header Xyb (record { size = n; maker = maker; model = model; intent = 0; id = id })) oldXybElements)
-      (ap fileLength (slots-shape (plan Perceptual) tt) ∙ length-file-xyb)
+      ap (λ (n : ℕ). file (header Xyb (record { size = n; maker = maker; model = model; intent = 0; id = id })) oldXybElements) (length-slots Perceptual)
 
   pub perceptual-kept : layout (plan Perceptual) ≡ oldXybFile maker model
   unfolding computedId oldXybFile
@@ -156,9 +161,6 @@ module _ (maker model : ℕ) where
 
     mixed : RenderingIntent → RenderingIntent → List ℕ
     mixed i j = file (header Xyb (says i)) (elements (plan j))
-
-    length-slots : (j : RenderingIntent) → fileLength (slots (plan j)) ≡ 720
-    length-slots j = ap fileLength (slots-shape (plan j) tt) ∙ length-file-xyb
 
     its-own : (i : RenderingIntent) → withId id (plan i) ≡ mixed i i
     unfolding withId mixed
@@ -193,12 +195,15 @@ module _ (maker model : ℕ) where
       let id : profileId (withLetters i (withByte67 i (layout p))) ≡ computedId q = ap profileId here ∙ any-id q d (length-computed p) in
       sym (ap₂ (λ (f e : List ℕ). put f 84 e) here id ∙ put-id q d (computedId q) (length-computed p) (length-computed q) ∙ sym (layout-computed q))
 
-  pub written-patched : (i : RenderingIntent) {n k : ℕ} (before after : List ℕ)
-      → Creates (encodingWith maker model (XYB i)) before after (Written n k) → take n after ≡ patchedXyb i (oldXybFile maker model)
-  written-patched i {n} before after w =
-      let p = written (encodingWith maker model (XYB i)) n before after w in
-      let same : p .plan ≡ plan i = cc (sym (p .its-plan) ∙ its-plan i) in
-      p .laid-out ∙ ap layout same ∙ patched i ∙ ap (patchedXyb i) perceptual-kept
+  module _ (i : RenderingIntent) {n k : ℕ} (before after : List ℕ) (w : Creates (encodingWith maker model (XYB i)) before after (Written n k)) where
+    laid-out : take n after ≡ layout (plan i)
+    laid-out =
+        let p = written (encodingWith maker model (XYB i)) n before after w in
+        let same : p .plan ≡ plan i = cc (sym (p .its-plan) ∙ its-plan i) in
+        p .laid-out ∙ ap layout same
+
+    pub written-patched : take n after ≡ patchedXyb i (oldXybFile maker model)
+    written-patched = laid-out ∙ patched i ∙ ap (patchedXyb i) perceptual-kept
 
   -- ---- the reader
 
@@ -225,7 +230,7 @@ module _ (maker model : ℕ) where
 
       long : length f ≡ 720
       unfolding mixed
-      long = length-file _ (elements (plan j)) (length-header Xyb v sixteen) (plan-fours (plan j) tt) ∙ length-slots id sixteen j
+      long = length-file _ (elements (plan j)) (length-header Xyb v sixteen) (plan-fours (plan j) tt) ∙ length-slots j
 
       ok21 : Ok21 f
       ok21 = record { long = omega (arith, long) }
@@ -259,9 +264,19 @@ module _ (maker model : ℕ) where
           let ok22 : Ok22 f = record { size = ap (λ (v : Varying). v .size) says-it ∙ sym long } in
           let ok23 : Ok23 f = record { kind = Xyb; header = headed } in
           let ok24 : Ok24 f = record { intent = rw says-it (intentNumber-le i) } in
-          let ok25 : Ok25 f = record { plan = plan i; valid = valid i; header = headed; table = tabled; length-is = long ∙ sym (length-slots id sixteen i) } in
+          let ok25 : Ok25 f = record { plan = plan i; valid = valid i; header = headed; table = tabled; length-is = long ∙ sym (length-slots i) } in
           let first : FirstFailing f checks c26 = later ok21 (later ok22 (later ok23 (later ok24 (later ok25 (fails (λ ok. other (same-letters ok))))))) in
           ap read (byte-67 id sixteen i j) ∙ read-is f (refused c26) (refuses first)
+
+pub written-26 : (maker model : ℕ) (i j : RenderingIntent) → ¬ (i ≡ j) → {n k : ℕ} (before after : List ℕ)
+    → Creates (encodingWith maker model (XYB j)) before after (Written n k) → (r : Reading) → r ≡ reading (read (withByte67 i (take n after))) → told r ≡ refusedBy 26
+written-26 maker model i j other {n} before after w r h =
+    let p = xybPlanWith maker model j in
+    let crossed : read (withByte67 i (take n after)) ≡ refused c26 =
+    ap (λ f. read (withByte67 i f)) (laid-out maker model j before after w ∙ layout-computed p)
+    ∙ another-text maker model (w .maker) (w .model) i j (computedId p) (length-computed p) other
+    in
+    ap told (h ∙ ap reading crossed) ∙ refusal-told c26
 
 pub only-above-3 : (f : List ℕ) → read f ≡ refused c24 → 3 < varyingOf f .intent
 only-above-3 f h = go (subst (Answers f) h (read-answers f))

@@ -110,7 +110,7 @@ Ok8 (XYB i) = Unit {0}
 abbrev pub Ok9 : JxlColorEncoding → ℕ → Type 0
 Ok9 e n = (p : Plan) → planOf e ≡ is p → length (layout p) ≤ n
 
--- ---- the checks in order
+-- ---- the checks in order; none has the number 2, which went with order 8 of 02
 
 pub data Check : Type 0 where
   c1 c3 c4 c5 c6 c7 c8 c9 : Check

@@ -43,7 +43,7 @@ use Rattle.profile.specs.Layout.{layout}
 use Rattle.writer.specs.Writer.{answer}
 use Rattle.writer.specs.declared.Profile.{Profile}
 use Rattle.writer.specs.declared.Profile.the-variants.{Written, Refused}
-use Rattle.writer_laws.specs.RefusalList.{Fits, NeitherPqNorHlg, ReciprocalFits, chadOf, matrixOf, grayX, grayZ, Check, c1, c3, c4, c5, c6, c7, c8, c9, number, checks, Answers, refuses as refuses-by, writes as writes-it}
+use Rattle.writer_laws.specs.RefusalList.{Fits, NeitherPqNorHlg, ReciprocalFits, chadOf, matrixOf, grayX, grayZ, Check, c1, c3, c4, c5, c6, c7, c8, number, checks, Answers, refuses as refuses-by, writes as writes-it}
 use Rattle.writer_laws.specs.RefusalListLaws.{Decides, passes, refuses, DecidesAs, decides-by, value-of, both-decide, fixed-decides, each-decides, test-decides, From, stops, writes, onward, step, step-as, apart, last}
 
 -- ---- the curve

@@ -1,7 +1,10 @@
 -- `xyb_plan` meets its contract: the numbers are those of the intent, and the count is the same for each.
-use mathlib.Core.Path.{refl, sym}
+use Prim.Native.Nat.{ℕ}
+use mathlib.Core.Path.{_≡_, sym, ap}
 use borrow.Author.Needs.{needs}
+use Rattle.buffer.specs.Checked.{is}
 use Rattle.color_encoding.specs.declared.JxlColorEncoding.the-variants.{XYB}
+use Rattle.profile.specs.Plan.{xyb, plainPlan}
 use Rattle.encoding_plan.specs.PlanOf.{planOf}
 use Rattle.encoding_plan.specs.AnswersLaws.{planned-as}
 use Rattle.encoding_plan.specs.FixedFloatsLaws.{xyb-count}
@@ -18,7 +21,8 @@ returns : tie.Need-returns
 unfolding planOf
 returns c =
     let i = c .before .before .args .intent in
-    rw (c .xyb-numbers .ensures, c .before .number .ensures) (planned-as (XYB i) refl (sym (xyb-count i)))
+    let planned : planOf (XYB i) ≡ is (plainPlan (c .before .number .result) xyb) = ap (λ (n : ℕ). is (plainPlan n xyb)) (sym (c .before .number .ensures)) in
+    rw (c .xyb-numbers .ensures) (planned-as (XYB i) planned (sym (xyb-count i)))
 
 pub xyb-plan-spec : {M : Type 1} → statement M
 xyb-plan-spec = tie.close (tie.spec number-requires xyb-numbers-requires (λ c. search needs) returns)
