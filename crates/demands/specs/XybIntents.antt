@@ -2,7 +2,7 @@
 -- matching text and a new id; the writer never answers 2; the reader knows all four, refuses a text of another intent by 26, and leaves 24 for intents above
 -- 3. (That writing XYB always succeeds with enough output is `xyb-answer` of Demand2.) Assumes nothing.
 use Prim.Native.Nat.{ℕ, _<_}
-use mathlib.Core.Path.{_≡_}
+use mathlib.Core.Path.{_≡_, sym, _∙_}
 use mathlib.Core.List.{List}
 use lib.ListN.{length, take}
 use Rattle.buffer.specs.Checked.{is, refused as refusedBy}
@@ -16,7 +16,9 @@ use Rattle.profile.specs.Layout.{xybText, withId, layout}
 use Rattle.encoding_plan.specs.EncodingPlan.{encodingWith, encodingPlan, countedEncodingPlan}
 use Rattle.encoding_plan.specs.declared.Encoding.{Encoding}
 use Rattle.writer.specs.Writer.{answer, Creates}
+use Rattle.writer.specs.WriterLaws.{any-device}
 use Rattle.writer.specs.declared.Profile.the-variants.{Written, Refused}
+use Rattle.writer_laws.specs.RefusalNumbers as RefusalNumbers
 use Rattle.reader_spec.specs.Table.{varyingOf}
 use Rattle.reader_spec.specs.RefusalList.{accepted, refused, c24, c26}
 use Rattle.reader_spec.specs.Read.{read}
@@ -48,7 +50,7 @@ matching-text i = Laws.matching-text i
 -- ---- the writer
 
 pub never-2 : (e : Encoding) (n : ℕ) → ¬ (answer (countedEncodingPlan e) n ≡ Refused 2)
-never-2 e n = Laws.never-2 e n
+never-2 e n h = RefusalNumbers.never-2 (e .color) n (sym (any-device e n) ∙ h)
 
 -- running code: `maybe_create_profile` ensures `Creates`
 pub written-patched : (maker model : ℕ) (i : RenderingIntent) {n k : ℕ} (before after : List ℕ)

@@ -36,14 +36,9 @@ use Rattle.profile.specs.Layout.{Varying, tag, D50, xybText, elementsFor, eleme
 use Rattle.profile.specs.LayoutLaws.{length-header, length-computed, length-layout, header-put-byte-67, plan-fours, put-id, any-id, layout-computed}
 use Rattle.profile.specs.declared.Kind.the-variants.{Xyb}
 use Rattle.encoding_plan.specs.PlanOf.{planOf}
-use Rattle.encoding_plan.specs.EncodingPlan.{encodingWith, encodingPlan, countedEncodingPlan}
-use Rattle.encoding_plan.specs.declared.Encoding.{Encoding}
-use Rattle.writer.specs.Writer.{answer, Creates}
-use Rattle.writer.specs.WriterLaws.{any-device}
-use Rattle.writer.specs.declared.Profile.{Profile}
-use Rattle.writer.specs.declared.Profile.the-variants.{Written, Refused}
-use Rattle.writer_laws.specs.RefusalList as Writing
-use Rattle.writer_laws.specs.WriterAnswersLaws.{answered}
+use Rattle.encoding_plan.specs.EncodingPlan.{encodingWith, encodingPlan}
+use Rattle.writer.specs.Writer.{Creates}
+use Rattle.writer.specs.declared.Profile.the-variants.{Written}
 use Rattle.reader_spec.specs.Table.{varyingOf, tableOf, bodyOf}
 use Rattle.reader_spec.specs.TableLaws.{table-file, body-file}
 use Rattle.reader_spec.specs.FileLaws.{header-varying, small, computed-exists}
@@ -283,22 +278,3 @@ only-above-3 f h = go (subst (Answers f) h (read-answers f))
   where
     go : Answers f (refused c24) → 3 < varyingOf f .intent
     go (refuses first) = not-below (λ low. first-fails first (record { intent = low }))
-
--- ---- the writer's numbers
-
-not-2 : (c : Writing.Check) → Writing.number c ≡ 2 → ⊥
-not-2 Writing.c1 e = omega arith
-not-2 Writing.c3 e = omega arith
-not-2 Writing.c4 e = omega arith
-not-2 Writing.c5 e = omega arith
-not-2 Writing.c6 e = omega arith
-not-2 Writing.c7 e = omega arith
-not-2 Writing.c8 e = omega arith
-not-2 Writing.c9 e = omega arith
-
-pub never-2 : (e : Encoding) (n : ℕ) → ¬ (answer (countedEncodingPlan e) n ≡ Refused 2)
-never-2 e n h = go (answered (e .color) n) (sym (any-device e n) ∙ h)
-  where
-    go : {a : Profile} → Writing.Answers (e .color) n a → a ≡ Refused 2 → ⊥
-    go (Writing.refuses {c} first) g = let same : Writing.number c ≡ 2 = cc in not-2 c same
-    go (Writing.writes p q all) g = let z : _≡_ {A = ℕ} 0 1 = cc in omega arith

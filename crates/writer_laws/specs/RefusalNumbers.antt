@@ -16,11 +16,17 @@ use Rattle.profile.specs.Layout.{layout}
 use Rattle.encoding_plan.specs.PlanOf.{planOf}
 use Rattle.encoding_plan.specs.FixedFloats.{fixedFloats, countedPlan}
 use Rattle.writer.specs.Writer.{answer, number, countAfter, profileBy}
+use Rattle.writer.specs.declared.Profile.the-variants.{Refused}
+use Rattle.writer_laws.specs.RefusalNumbersLaws as Laws
 use Rattle.writer_laws.specs.RefusalNumbersLaws.{refusal-bounds, told}
 use Rattle.writer_laws.specs.WrittenLength.{written-length}
 
 pub refusal-number : (e : JxlColorEncoding) {k : ℕ} → planOf e ≡ refused k → (1 ≤ k) × (k ≤ 8)
 refusal-number e h = refusal-bounds e h
+
+-- whatever the output
+pub never-2 : (e : JxlColorEncoding) (n : ℕ) → answer (countedPlan e) n ≡ Refused 2 → ⊥
+never-2 e n h = Laws.never-2 e n h
 
 -- of a plan, or of a refusal by a number up to 99
 pub number-tells : (xs : List Float) (c : Checked Plan) (n : ℕ) → ((p : Plan) → c ≡ is p → minLength ≤ length (layout p)) → ((k : ℕ) → c ≡ refused k → k ≤ 99)

@@ -19,7 +19,7 @@ use Rattle.profile.specs.Plan.{Plan}
 use Rattle.profile.specs.Shape.{minLength}
 use Rattle.profile.specs.Layout.{layout}
 use Rattle.encoding_plan.specs.PlanOf.{planOf}
-use Rattle.encoding_plan.specs.FixedFloats.{fixedFloats}
+use Rattle.encoding_plan.specs.FixedFloats.{fixedFloats, countedPlan}
 use Rattle.writer.specs.Writer.{answer, number as numberOf, countAfter, profileBy, tooShort}
 use Rattle.writer.specs.declared.Profile.{Profile}
 use Rattle.writer.specs.declared.Profile.the-variants.{Written, Refused}
@@ -46,6 +46,25 @@ module _ (e : JxlColorEncoding) {k : ℕ} (h : planOf e ≡ refused k) where
       go : {a : Profile} → Answers e 0 a → a ≡ Refused k → (1 ≤ k) × (k ≤ 8)
       go (refuses {c} f) g = let same : number c ≡ k = cc in rw (← same) (before-output c f)
       go (writes p q all) g = let z : _≡_ {A = ℕ} 0 1 = cc in absurd (omega arith)
+
+-- ---- no refusal has the number 2
+
+not-2 : (c : Check) → number c ≡ 2 → ⊥
+not-2 c1 e = omega arith
+not-2 c3 e = omega arith
+not-2 c4 e = omega arith
+not-2 c5 e = omega arith
+not-2 c6 e = omega arith
+not-2 c7 e = omega arith
+not-2 c8 e = omega arith
+not-2 c9 e = omega arith
+
+pub never-2 : (e : JxlColorEncoding) (n : ℕ) → answer (countedPlan e) n ≡ Refused 2 → ⊥
+never-2 e n h = go (answered e n) h
+  where
+    go : {a : Profile} → Answers e n a → a ≡ Refused 2 → ⊥
+    go (refuses {c} f) g = let same : number c ≡ 2 = cc in not-2 c same
+    go (writes p q all) g = let z : _≡_ {A = ℕ} 0 1 = cc in omega arith
 
 -- ---- a number tells the answer
 
