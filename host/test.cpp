@@ -4,7 +4,8 @@
 // sizes and joins them, in order and out of it, whole and damaged. Types every named encoding, numbers of one's own, and texts that are no
 // description. Makes each call also with a count of numbers that were rounded, and counts them once more by their floats. Writes each profile with
 // other makers and models, which change their own bytes and the id alone, and reads it back. Reads each also with zeros in place of the id, which are
-// accepted, and with other bytes there, which are not. Writes the accepted profiles into the folder that it is given.
+// accepted, and with other bytes there, which are not. Holds XYB of each intent against the Perceptual file with that intent, its text and its id put
+// in. Writes the accepted profiles into the folder that it is given.
 #include "merqyduk.h"
 
 #include <sys/mman.h>
@@ -428,8 +429,8 @@ merqyduk_plan plan_of(const Bytes &f, const Asked &asked) {
     plan.maker = asked.device.maker;
     plan.model = asked.device.model;
     plan.id_not_computed = asked.id_not_computed ? 1 : 0;
-    if (asked.kind == 3) return plan;
     plan.intent = asked.intent;
+    if (asked.kind == 3) return plan;
     plan.curve = asked.curve;
     if (asked.curve == MERQYDUK_CURVE_GAMMA)
         plan.gamma = int32_t(std::lround(double(1.0f / asked.gamma) * 65536));
@@ -654,34 +655,41 @@ void bad_files(const Bytes &srgb, const Bytes &gray, const Bytes &xyb) {
     refuses_file("a byte before the maker", 23, with_id(with(srgb, 47, 1)));
     refuses_file("a byte after the model", 23, with_id(with(srgb, 56, 1)));
     refuses_file("intent 4", 24, with(srgb, 67, 4));
-    refuses_file("XYB Relative", 24, with(xyb, 67, 1));
+    refuses_file("XYB intent 4", 24, with(xyb, 67, 4));
     refuses_file("another number of tags", 25, with(srgb, 131, uint8_t(srgb[131] - 1)));
     refuses_file("another offset", 25, with(srgb, 139, uint8_t(srgb[139] + 4)));
     refuses_file("a letter above 127", 26, with(srgb, word(srgb, 136) + 29, 128));
     refuses_file("another type", 26, with(gray, word(gray, 136), 'x'));
     refuses_file("a number of XYB", 26, with(xyb, xyb.size() - 1, uint8_t(xyb.back() ^ 1)));
+    refuses_file("the intent of another XYB text", 26, with(xyb, 67, 1));
     const size_t white = white_at(gray);
     refuses_file("a white above its range", 27, with_number(gray, white, 2147483265));
     refuses_file("a white below its range", 27, with_number(gray, white, -2147483265));
 }
 
-// Each bit of the header changed, with the id that the file then has and with zeros in its place. Maker and model may be any, and the intent up to 3
-// but in XYB.
+// What the reader answers where a header has another byte here, and the id is right. Maker and model may be any, and the intent up to 3; but in XYB the
+// text is then that of another intent.
+uint32_t header_answer(size_t at, uint32_t intent, uint32_t kind) {
+    if ((at >= 48 && at < 56) || (at >= 84 && at < 100)) return 0;
+    if (at < 4) return 22;
+    if (at < 64 || at >= 68) return 23;
+    return intent > 3 ? 24 : kind == 3 ? 26 : 0;
+}
+
+// Each bit of the header changed, with the id that the file then has and with zeros in its place.
 void header_bits(const Bytes &f, uint32_t kind) {
     for (size_t bit = 0; bit < 8 * 128; bit++) {
-        const size_t at = bit / 8;
         const Bytes changed = with_id(with_bit(f, bit));
-        const bool device = at >= 48 && at < 56, intent = at >= 64 && at < 68, id = at >= 84 && at < 100;
-        const bool known = kind != 3 && word(changed, 64) <= 3;
-        const uint32_t expected = device || id || (intent && known) ? 0 : at < 4 ? 22 : intent ? 24 : 23;
+        const uint32_t expected = header_answer(bit / 8, word(changed, 64), kind);
         for (uint32_t mark : {0u, 1u}) {
             const Bytes file = mark == 1 ? without_id(changed) : changed;
             merqyduk_plan plan{};
             expect(merqyduk_read(file.data(), file.size(), &plan, sizeof plan) == expected,
                    "bit " + std::to_string(bit) + " of a header answered " + std::to_string(expected));
             if (expected == 0)
-                expect(plan.maker == word(file, 48) && plan.model == word(file, 52) && plan.id_not_computed == mark,
-                       "maker, model and mark of a header");
+                expect(plan.maker == word(file, 48) && plan.model == word(file, 52) && plan.intent == word(file, 64) &&
+                           plan.id_not_computed == mark,
+                       "maker, model, intent and mark of a header");
         }
     }
 }
@@ -951,6 +959,7 @@ void long_data(const Bytes &from, size_t length, const std::vector<size_t> &size
     const std::string name = "data of " + std::to_string(length) + " bytes";
     joins_in_any_order(name, 25, data, sizes);
     joins_in_any_order(name + " with intent 4", 24, with(data, 67, 4), sizes);
+    for (uint8_t intent : {0, 1, 2, 3}) joins_in_any_order(name + " with a known intent", 25, with(data, 67, intent), sizes);
     joins_in_any_order(name + " of another class", 23, with(data, 12, 'x'), sizes);
     joins_in_any_order(name + " with a reserved byte", 23, with(data, 127, 1), sizes);
     joins_in_any_order(name + " with maker and model", 25, with_device(data, acme), sizes);
@@ -1212,10 +1221,10 @@ void refuses_job(const std::string &name, uint32_t number, const Bytes &job) {
 // The job of 01: one RGB entry, sRGB, and one XYB entry, Relative.
 Bytes example() { return with(with(with(with(Bytes(44), 1, 1), 36, 2), 42, 1), 43, 1); }
 
-void good_jobs(const Bytes &srgb) {
+void good_jobs(const Bytes &srgb, const Bytes &xyb_relative) {
     counts("the job of 01", 2, example());
     expect(writes("entry 0", 504, entry(example(), 0)) == srgb, "entry 0 has the profile of sRGB");
-    refuses("entry 1", 2, entry(example(), 1));
+    expect(writes("entry 1", 720, entry(example(), 1)) == xyb_relative, "entry 1 has the profile of XYB Relative");
     counts("a job without entries", 0, Bytes(3));
 
     // Two gray entries, Relative and PQ, one RGB and one XYB, in this order over all sections.
@@ -1458,7 +1467,7 @@ void named_encodings() {
         parses(typed, known.second);
         Bytes profile(1200);
         profile.resize(merqyduk_write(&known.second, profile.data(), profile.size()));
-        if (profile.size() >= MERQYDUK_MIN_PROFILE && known.second.space != MERQYDUK_SPACE_XYB)
+        if (profile.size() >= MERQYDUK_MIN_PROFILE)
             expect(text(profile) == typed, shown(typed) + " is the text of its profile");
         bool all_right = true;
         for (size_t i = 0; i <= typed.size(); i++) {
@@ -1748,8 +1757,10 @@ void encoding_structs() {
     };
     e = named(MERQYDUK_SPACE_GRAY, 0, 9, 2, 1);
     tells_length("gray with primaries that have no meaning", 328);
-    e = named(MERQYDUK_SPACE_XYB, 9, 9, 9, 0);
-    tells_length("XYB with a white that has no meaning", 720);
+    for (uint32_t intent = 0; intent < 4; intent++) {
+        e = named(MERQYDUK_SPACE_XYB, 9, 9, 9, intent);
+        tells_length("XYB with a white that has no meaning", 720);
+    }
     e = named(MERQYDUK_SPACE_RGB, 0, 9, 2, 1);
     tells_length("RGB with primaries that have no meaning", 43);
 }
@@ -2019,7 +2030,7 @@ void named_counts() {
         }
     expect(rounded(rgb(0, 0, 0, 0, {}, 2, 0, 0)) == 24, "24 numbers of sRGB were rounded");
     expect(rounded(gray(0, 0, 0, 2, 0, 1)) == 7, "7 numbers of gray were rounded");
-    expect(rounded(xyb(0)) == 30, "30 numbers of XYB were rounded");
+    for (uint32_t intent = 0; intent < 4; intent++) expect(rounded(xyb(intent)) == 30, "30 numbers of XYB were rounded");
     for (uint32_t white = 0; white < 4; white++)
         for (uint32_t primaries = 0; primaries < 4; primaries++) other_curves(white, primaries, {0.69f, 0.31f, 0.21f, 0.71f, 0.14f, 0.05f});
 }
@@ -2096,7 +2107,8 @@ bool device_right(const Call &call, Device device, std::map<uint32_t, int> &answ
     return std::memcmp(&plan, &its_plan, sizeof plan) == 0 && id_right(its, next_id_bit());
 }
 
-void devices_by_chance(uint32_t space, const std::vector<uint32_t> &refusals) {
+// Each of `some` is answered at times, and 2 never.
+void devices_by_chance(uint32_t space, const std::vector<uint32_t> &some) {
     Chance chance(space);
     std::map<uint32_t, int> answers;
     bool all_right = true;
@@ -2105,8 +2117,9 @@ void devices_by_chance(uint32_t space, const std::vector<uint32_t> &refusals) {
         all_right = device_right(call, {chance.any(), chance.any()}, answers) && all_right;
     }
     expect(all_right, "maker and model by chance in space " + std::to_string(space));
-    for (uint32_t refusal : refusals)
-        expect(answers[refusal] > 20, "encodings by chance of space " + std::to_string(space) + " refused " + std::to_string(refusal));
+    for (uint32_t answer : some)
+        expect(answers[answer] > 20, "encodings by chance of space " + std::to_string(space) + " answered " + std::to_string(answer));
+    expect(answers.count(2) == 0, "no encoding by chance of space " + std::to_string(space) + " answered 2");
 }
 
 // What the call with maker and model writes.
@@ -2114,6 +2127,130 @@ Bytes written(const Call &call, Device device) {
     Bytes f(1200);
     f.resize(call.write_device(device, f.data(), f.size()));
     return f;
+}
+
+// ---- XYB with each intent. `files` has the files that were written, by their intents.
+
+// An XYB file with this number for the intent in its header and these three letters for it in its text, and the id that it then has.
+Bytes with_intent(const Bytes &xyb, uint32_t intent, const std::string &letters) {
+    Bytes f = with_number(xyb, 64, int32_t(intent));
+    // The text begins 28 bytes from the start of `desc` on. Before the three letters stand those of XYB_, each in two bytes.
+    const size_t at = word(f, 136) + 28 + 2 * 4;
+    for (size_t i = 0; i < 3; i++) f[at + 2 * i + 1] = uint8_t(letters[i]);
+    return with_id(f);
+}
+
+// The Perceptual file is that of the Rust, by its id. Each is this file with an intent, its text and its id, also with maker and model.
+void patched_xyb(const std::vector<Bytes> &files) {
+    const Bytes id = {0x84, 0x6f, 0xef, 0xe4, 0x5f, 0x6a, 0x1d, 0x3d, 0x51, 0x5e, 0x1a, 0x4d, 0xc9, 0x7f, 0x4b, 0xda};
+    expect(std::equal(id.begin(), id.end(), files[0].begin() + 84), "the id of the Perceptual file");
+    for (uint32_t intent = 0; intent < 4; intent++) {
+        const std::string name = std::string("XYB_") + intent_names[intent];
+        const Bytes patched = with_intent(files[0], intent, intent_names[intent]);
+        expect(files[intent] == patched, name + " is the Perceptual file with this intent");
+        expect(text(files[intent]) == name, name + " is its text");
+        for (const Device &device : devices)
+            expect(written(xyb(intent), device) == with_device(patched, device), name + " with maker and model is that file with them");
+        // `finds` went by the table of each file.
+        expect(std::equal(files[0].begin() + 128, files[0].begin() + 204, files[intent].begin() + 128), name + " has the same tags at the same places");
+    }
+}
+
+// XYB is refused for a number that is no intent, 43, and for a short output, 9. No intent is refused: that was number 2.
+void xyb_answers() {
+    for (uint32_t intent : {0u, 1u, 2u, 3u, 4u, 5u, 255u, 256u, 257u, 0x1000001u, 0x80000000u, 0x80000001u, 0xffffffffu}) {
+        const Call call = xyb(intent);
+        bool all_right = true;
+        for (size_t n = 0; n <= 1300; n++) {
+            const uint32_t expected = intent > 3 ? 43 : n < 720 ? 9 : 720;
+            uint8_t out[1300];
+            uint32_t count = 0;
+            for (uint32_t answer : {call(out, n), call.length(n), call.write_counted(out, n, &count), call.length_counted(n, &count),
+                                    call.write_device(next_device(), out, n)})
+                all_right = all_right && answer == expected;
+        }
+        expect(all_right, "XYB with intent " + std::to_string(intent) + " in outputs of all lengths");
+    }
+}
+
+// Each intent in each place of a job, and each byte for an intent.
+void xyb_jobs(const std::vector<Bytes> &files) {
+    for (const Bytes &job : {Bytes{0, 0, 4, 0, 1, 2, 3}, Bytes{0, 0, 4, 3, 2, 1, 0}, Bytes{0, 0, 4, 1, 0, 3, 2}}) {
+        counts("a job of XYB", 4, job);
+        for (size_t i = 0; i < 4; i++)
+            expect(writes("an XYB entry", 720, entry(job, i)) == files[job[3 + i]], "an XYB entry has the profile of its intent");
+    }
+    for (size_t byte = 4; byte < 256; byte++) refuses_job("an XYB intent without meaning", 43, {0, 0, 2, 1, uint8_t(byte)});
+}
+
+// The text of another intent than the header's, whatever the id is.
+void crossed_texts(const Bytes &perceptual) {
+    for (uint32_t intent = 0; intent < 4; intent++)
+        for (uint32_t other = 0; other < 4; other++) {
+            if (other == intent) continue;
+            const std::string name = std::string("XYB_") + intent_names[other] + " in a file of intent " + std::to_string(intent);
+            for (const Device &device : {Device{0, 0}, acme}) {
+                const Bytes crossed = with_device(with_intent(perceptual, intent, intent_names[other]), device);
+                refuses_file(name, 26, crossed);
+                refuses_file(name + " without an id", 26, without_id(crossed));
+                refuses_file(name + " with another id", 26, with_bit(crossed, next_id_bit()));
+            }
+        }
+}
+
+// The id of the file of another intent: it is of the text.
+void crossed_ids(const std::vector<Bytes> &files) {
+    for (const Bytes &f : files)
+        for (const Bytes &other : files) {
+            Bytes crossed = f;
+            std::copy(other.begin() + 84, other.begin() + 100, crossed.begin() + 84);
+            if (&f != &other) id_of_another("the id of another intent", crossed);
+        }
+}
+
+// Numbers that are no intent, whatever text and id are.
+void unknown_intents(const Bytes &perceptual) {
+    for (uint32_t number : {4u, 5u, 6u, 7u, 255u, 256u, 257u, 0x10000u, 0x1000000u, 0x1000003u, 0x7fffffffu, 0x80000000u, 0x80000001u,
+                            0xffffffffu})
+        for (const std::string letters : {"Per", "Rel", "Sat", "Abs", "Xyz"}) {
+            const Bytes f = with_intent(perceptual, number, letters);
+            const std::string name = "XYB_" + letters + " in a file of intent " + std::to_string(number);
+            refuses_file(name, 24, f);
+            refuses_file(name + " without an id", 24, without_id(f));
+        }
+}
+
+// Each bit past the header changed, by the id that the file then has and without one: 25 in the tag table, 26 in elements and padding.
+void xyb_bits(const Bytes &f) {
+    bool all_right = true;
+    for (size_t bit = 8 * 128; bit < 8 * f.size(); bit++) {
+        const Bytes changed = with_id(with_bit(f, bit));
+        for (const Bytes &file : {changed, without_id(changed)}) {
+            merqyduk_plan plan;
+            all_right = all_right && merqyduk_read(file.data(), file.size(), &plan, sizeof plan) == (bit < 8 * 204 ? 25u : 26u);
+        }
+    }
+    expect(all_right, "each bit past the header of " + text(f));
+}
+
+void xyb_intents(const std::vector<Bytes> &files) {
+    patched_xyb(files);
+    xyb_answers();
+    xyb_jobs(files);
+    crossed_texts(files[0]);
+    crossed_ids(files);
+    unknown_intents(files[0]);
+    for (const Bytes &f : files) {
+        header_bits(f, 3);
+        xyb_bits(f);
+        // The Perceptual file has its turn in `ids` and `segments`.
+        if (f == files[0]) continue;
+        bad_ids(f);
+        for (const Bytes &file : {f, without_id(with_device(f, acme))}) {
+            put_into_segments(text(f), file);
+            good_segments(text(f), file);
+        }
+    }
 }
 
 void save(const std::string &folder, const std::string &name, const std::vector<uint8_t> &profile) {
@@ -2142,8 +2279,13 @@ int main(int argc, char **argv) {
     save(folder, "srgb-relative", profile("sRGB Relative", 536, rgb(0, 0, 0, 0, none, 2, 0, 1), {2, 1, 2, 0}));
     auto gray_d65 = profile("gray", 328, gray(0, 0, 0, 2, 0, 1), {1, 1, 2, 0});
     save(folder, "gray", gray_d65);
-    auto xyb_only = profile("XYB", 720, xyb(0), {3, 0, 0, 0});
-    save(folder, "xyb", xyb_only);
+    const char *const xyb_names[] = {"xyb", "xyb-relative", "xyb-saturation", "xyb-absolute"};
+    std::vector<Bytes> xyb_files;
+    for (uint32_t intent = 0; intent < 4; intent++) {
+        xyb_files.push_back(profile(xyb_names[intent], 720, xyb(intent), {3, intent, 0, 0}));
+        save(folder, xyb_names[intent], xyb_files[intent]);
+    }
+    const Bytes &xyb_perceptual = xyb_files[0];
     profile("RGB white (0, 1)", 544, rgb(3, 0, 1, 0, none, 2, 0, 0), {2, 0, 2, 0});
     auto infinite = rgb(0, 0, 0, 0, none, 6, infinity, 0);
     uint8_t buffer[1200];
@@ -2165,7 +2307,6 @@ int main(int argc, char **argv) {
 
     refuses("PQ", 1, rgb(0, 0, 0, 1, none, 3, 0, 1));
     refuses("HLG gray", 1, gray(0, 0, 0, 5, 0, 1));
-    for (uint32_t intent = 1; intent <= 3; intent++) refuses("XYB with another intent", 2, xyb(intent));
     refuses("gray wy 0", 3, gray(3, 0.3f, 0, 2, 0, 0));
     refuses("RGB wy 0", 4, rgb(3, 0.3f, 0, 0, none, 2, 0, 0));
     refuses("RGB white NaN", 4, rgb(3, nan, 0.3f, 0, none, 2, 0, 0));
@@ -2194,26 +2335,26 @@ int main(int argc, char **argv) {
     // And profiles without an id.
     save(folder, "srgb-no-id", without_id(srgb));
     save(folder, "gray-no-id", without_id(gray_d65));
-    save(folder, "xyb-no-id", without_id(xyb_only));
+    save(folder, "xyb-no-id", without_id(xyb_perceptual));
 
     for (const Device &device : {Device{0, 0}, acme}) {
-        const Bytes rgb_file = with_device(srgb, device), gray_file = with_device(gray_d65, device), xyb_file = with_device(xyb_only, device);
+        const Bytes rgb_file = with_device(srgb, device), gray_file = with_device(gray_d65, device), xyb_file = with_device(xyb_perceptual, device);
         bad_files(rgb_file, gray_file, xyb_file);
         bad_files(without_id(rgb_file), without_id(gray_file), without_id(xyb_file));
         ids(rgb_file, gray_file, xyb_file);
     }
     header_bits(srgb, 2);
     header_bits(gray_d65, 1);
-    header_bits(xyb_only, 3);
-    segments(srgb, gray_d65, xyb_only);
-    good_jobs(srgb);
+    segments(srgb, gray_d65, xyb_perceptual);
+    xyb_intents(xyb_files);
+    good_jobs(srgb, xyb_files[MERQYDUK_INTENT_RELATIVE]);
     bad_jobs();
     typed_texts();
     vast_output(srgb, rgb(0, 0, 0, 0, none, 2, 0, 0));
     numbers_that_were_rounded();
     devices_by_chance(MERQYDUK_SPACE_GRAY, {1, 3, 7, 8});
     devices_by_chance(MERQYDUK_SPACE_RGB, {1, 4, 7, 8});
-    devices_by_chance(MERQYDUK_SPACE_XYB, {2});
+    devices_by_chance(MERQYDUK_SPACE_XYB, {720});
 
     std::printf("%d of %d\n", tried - failed, tried);
     return failed == 0 ? 0 : 1;

@@ -1,8 +1,8 @@
 #!/bin/sh
 # Tries the library as a user of C or C++ has it: installs it into a folder by `make install`, and builds all that follows from there.
 # The calls (test.cpp), the C++ header (test_hpp.cpp), the stack that a call takes (stack.c), what the library defines and needs, the examples by
-# pkg-config, the id of each profile against a plain MD5. Other programs open the profiles, three of them without an id, where they are installed; what
-# is skipped is said.
+# pkg-config, the id of each profile against a plain MD5. Other programs open the profiles, three of them without an id and XYB with each intent, where
+# they are installed; what is skipped is said.
 #
 #   host/test.sh [OUT]
 #
@@ -141,6 +141,14 @@ for profile in "$out"/*.icc; do
 done
 echo "ids: $((count - without)) of $count are the MD5 of their profile, $without are zeros"
 
+# The XYB profiles: file, number of the intent, text, and what exiftool calls the intent.
+cat >"$out/intents" <<'END'
+xyb 0 XYB_Per Perceptual
+xyb-relative 1 XYB_Rel Media-Relative Colorimetric
+xyb-saturation 2 XYB_Sat Saturation
+xyb-absolute 3 XYB_Abs ICC-Absolute Colorimetric
+END
+
 if command -v exiftool >/dev/null; then
     for profile in "$out"/*.icc; do
         said=$(exiftool -s3 -validate "$profile") || fail "exiftool does not open $profile"
@@ -158,17 +166,22 @@ if command -v exiftool >/dev/null; then
         [ "$said" = 0 ] || fail "exiftool shows an id of $profile-no-id.icc: $said"
     done
     echo "exiftool: id 0 in 3 of 3 without an id"
+    while read -r profile _ text intent; do
+        said=$(exiftool -s3 -RenderingIntent -ProfileDescription "$out/$profile.icc")
+        [ "$said" = "$(printf '%s\n%s' "$intent" "$text")" ] || fail "exiftool shows another intent or text of $profile.icc: $said"
+    done <"$out/intents"
+    echo "exiftool: intent and text as written in 4 of 4 for XYB"
 else
     skipped "exiftool's view of the profiles" libimage-exiftool-perl
 fi
 
 # The white of each, as lcms2 has it in the PCS.
 if command -v transicc >/dev/null; then
-    for profile in srgb srgb-relative srgb-no-id own gray xyb; do
+    for profile in srgb srgb-relative srgb-no-id own gray xyb xyb-relative; do
         case $profile in
         gray) white=255 ;;
         # XYB's color of white, (0, Y, Y), scaled as the profile wants it.
-        xyb) white='90.2231 255 106.3738' ;;
+        xyb*) white='90.2231 255 106.3738' ;;
         *) white='255 255 255' ;;
         esac
         said=$(echo "$white" | transicc -i "$out/$profile.icc" -o '*XYZ' 2>&1 | grep X=) || fail "transicc does not read $profile.icc"
@@ -191,7 +204,14 @@ if printf '#include <lcms2.h>\n' | cc -fsyntax-only -x c - 2>/dev/null; then
         [ "$said" = "$("$out/lcms" white "$out/$profile.icc")" ] || fail "lcms2 has another white of $profile-no-id.icc than of $profile.icc"
     done
     echo "lcms2: zeros for an id in 3 of 3 without an id, white as with one"
+    while read -r profile number text _; do
+        said=$("$out/lcms" intent "$out/$profile.icc") || fail "lcms2 does not open $profile.icc"
+        [ "$said" = "$(printf 'intent\t%s\t%s' "$number" "$text")" ] || fail "lcms2 has another intent or text of $profile.icc: $said"
+        said=$("$out/lcms" white "$out/$profile.icc") || fail "lcms2 has no white of $profile.icc, or another: $said"
+        [ "$said" = "$("$out/lcms" white "$out/xyb.icc")" ] || fail "lcms2 has another white of $profile.icc than of xyb.icc"
+    done <"$out/intents"
+    echo "lcms2: intent and text as written in 4 of 4 for XYB, white as in the Perceptual one"
 else
-    skipped "lcms2's view of maker, model and id" liblcms2-dev
+    skipped "lcms2's view of maker, model, id and intent" liblcms2-dev
 fi
 echo "host/test.sh: passed"

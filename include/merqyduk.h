@@ -7,7 +7,7 @@
  * Answers. A call that writes answers the length of the profile, MERQYDUK_MIN_PROFILE to
  * MERQYDUK_MAX_PROFILE, which then stands at the front of the output; the rest of the output is unchanged. Or
  * it answers a number below 100, and all of the output is unchanged: one of MERQYDUK_REFUSED_..., or 0 where
- * the job has no such entry. Refusals are tested in this order: 41, 42, 43; then 0; then 1 to 9. An output of
+ * the job has no such entry. Refusals are tested in this order: 41, 42, 43; then 0; then 1, 3 to 9. An output of
  * MERQYDUK_MAX_PROFILE bytes is enough for every profile. A call that tells a profile's length, merqyduk_length_...,
  * answers the same number without an output. The calls that read a file or a text, and those on segments, say below what
  * they answer.
@@ -35,8 +35,8 @@
  * merqyduk_write_gray 1,768, merqyduk_write_rgb 1,888, merqyduk_write_xyb 1,768, merqyduk_length_gray 928,
  * merqyduk_length_rgb 1,088, merqyduk_length_xyb 928, the same with _counted 1,768, 1,888, 1,768, 928, 1,088 and 928,
  * the first three with _device 1,800, 1,904 and 1,768, merqyduk_job 296, merqyduk_job_profile 2,048,
- * merqyduk_read 3,736, merqyduk_find 3,800, merqyduk_parse_description 712, merqyduk_write_segments 3,800,
- * merqyduk_join_segments 6,216. Not counted is the dynamic linker, which takes about 2,600 more where a program's
+ * merqyduk_read 3,720, merqyduk_find 3,784, merqyduk_parse_description 712, merqyduk_write_segments 3,784,
+ * merqyduk_join_segments 6,200. Not counted is the dynamic linker, which takes about 2,600 more where a program's
  * first memcpy is looked up in the call; -Wl,-z,now has it looked up before.
  *
  * Platform: Linux on any x86-64 processor. The calls go by the floating-point environment that a program
@@ -50,9 +50,9 @@
 #include <string.h>
 
 #define MERQYDUK_VERSION_MAJOR 0
-#define MERQYDUK_VERSION_MINOR 15
+#define MERQYDUK_VERSION_MINOR 16
 #define MERQYDUK_VERSION_PATCH 0
-#define MERQYDUK_VERSION_STRING "0.15.0"
+#define MERQYDUK_VERSION_STRING "0.16.0"
 
 /* The lengths of the profiles that are written, in bytes. */
 #define MERQYDUK_MIN_PROFILE 284
@@ -132,7 +132,6 @@ enum {
 enum {
     /* of writing */
     MERQYDUK_REFUSED_CURVE = 1,
-    MERQYDUK_REFUSED_XYB_INTENT = 2,
     MERQYDUK_REFUSED_GRAY_WHITE = 3,
     MERQYDUK_REFUSED_RGB_WHITE = 4,
     MERQYDUK_REFUSED_ADAPTATION = 5,
@@ -167,8 +166,6 @@ static inline const char *merqyduk_refusal_text(uint32_t refusal) {
     switch (refusal) {
     case MERQYDUK_REFUSED_CURVE:
         return "the curve is PQ or HLG";
-    case MERQYDUK_REFUSED_XYB_INTENT:
-        return "XYB with an intent other than Perceptual";
     case MERQYDUK_REFUSED_GRAY_WHITE:
         return "gray with |wy| below 1e-12";
     case MERQYDUK_REFUSED_RGB_WHITE:
@@ -190,7 +187,7 @@ static inline const char *merqyduk_refusal_text(uint32_t refusal) {
     case MERQYDUK_REFUSED_HEADER:
         return "class and space are none that is written, or another byte of the header differs";
     case MERQYDUK_REFUSED_INTENT_FIELD:
-        return "the intent is above 3, or XYB has one other than Perceptual";
+        return "the intent is above 3";
     case MERQYDUK_REFUSED_TAG_TABLE:
         return "the tag table or the length is that of no profile of this class and space";
     case MERQYDUK_REFUSED_ELEMENTS:
@@ -438,7 +435,7 @@ static inline uint32_t merqyduk_parse(const char *text, size_t text_len, struct 
  * unchanged. */
 uint32_t merqyduk_job(const uint8_t *job, size_t job_len, uint32_t *entries);
 
-/* Writes the profile of entry i, counted from 0 over all sections. A refusal of another entry, 1 to 9, does not touch
+/* Writes the profile of entry i, counted from 0 over all sections. A refusal of another entry, 1 or 3 to 9, does not touch
  * this one. */
 uint32_t merqyduk_job_profile(const uint8_t *job, size_t job_len, size_t i, uint8_t *out, size_t out_len);
 
@@ -446,7 +443,7 @@ uint32_t merqyduk_job_profile(const uint8_t *job, size_t job_len, size_t i, uint
 
 /* A plan: all that a profile of the library says. Fixed numbers are 65536ths. A member that a kind does not use is 0. */
 struct merqyduk_plan {
-    uint32_t kind;       /* 1 gray, 2 RGB, 3 XYB, which uses maker, model and id_not_computed alone of the others */
+    uint32_t kind;       /* 1 gray, 2 RGB, 3 XYB, which of the others uses intent, maker, model and id_not_computed alone */
     uint32_t intent;     /* MERQYDUK_INTENT_... */
     uint32_t maker;      /* maker and model, of every kind: any numbers */
     uint32_t model;

@@ -105,7 +105,6 @@ struct Encoding {
                         Device device = Device::none()) noexcept {
         return {Kind::rgb, white, primaries, curve, intent, device};
     }
-    // Written for the intent Perceptual only.
     static Encoding xyb(Intent intent = Intent::perceptual, Device device = Device::none()) noexcept {
         return {Kind::xyb, White::d65(), Primaries::srgb(), Curve::srgb(), intent, device};
     }

@@ -24,7 +24,6 @@ JOB_REFUSALS = {
 }
 REFUSALS = {
     1: "the curve is PQ or HLG",
-    2: "XYB with an intent other than Perceptual",
     3: "gray with |wy| below 1e-12",
     4: "RGB with a white outside 0 <= wx <= 1, 0 < wy <= 1, or one that cannot be adapted",
     5: "a number of the chromatic adaptation does not fit",

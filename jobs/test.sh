@@ -4,7 +4,8 @@
 #   jobs/test.sh [OUT]
 #
 # OUT, for what the tests write, is target/jobs-test if left out. The programs are built by run.sh; where they stand elsewhere, BIN in the environment
-# is their folder. The MD5s of profiles are those of what the Rust writes for the same encodings.
+# is their folder. The MD5s of profiles are those of what the Rust writes for the same encodings. XYB with another intent than Perceptual it refuses:
+# those profiles are its Perceptual one with the intent in byte 67, the intent's name in the text, and the id that this then has.
 set -u
 LC_ALL=C
 export LC_ALL
@@ -123,10 +124,17 @@ bad_words "$out/no-such-folder" "$out/two.txt" "$out/none"
     exit 1
 }
 BIN=${BIN:-$top/target/bin}
-is_file "$out/two/2-1.icc" 504 f5a0eb4fe51f41b1b7f67928ca8796bf && [ ! -e "$out/two/3-1.icc" ] &&
+is_file "$out/two/2-1.icc" 504 f5a0eb4fe51f41b1b7f67928ca8796bf && is_file "$out/two/3-1.icc" 720 e6141b97b55a17e837e3aa1c5b81a742 &&
     grep -q '^2 rgb  *1  *2  *504  02b3f6a3cc2f584479617b0037673aa1  2-1.icc$' "$out/two.out" &&
-    grep -q '^3 xyb  *1  *1  *-  refused 2: XYB' "$out/two.out"
+    grep -q '^3 xyb  *1  *1  *720  3ad7bbf0b07c0a42c9f933dfaf91e3e9  3-1.icc$' "$out/two.out" &&
+    grep -q '^Profiles: 2, of 1224 bytes together, as the listing says. Refused: 0.$' "$out/two.out"
 held "run.sh on the job of 44 bytes"
+printf 'gray white=D65 curve=HLG intent=Relative\nxyb intent=Perceptual\n' >"$out/one.txt"
+"$here/run.sh" "$out/one.txt" "$out/one" >"$out/got" && [ ! -e "$out/one/1-1.icc" ] &&
+    is_file "$out/one/3-1.icc" 720 eeb213473ee84d642eeeb880d911377c &&
+    grep -q '^1 gray  *1  *1  *-  refused 1: the curve is PQ or HLG$' "$out/got" &&
+    grep -q '^Profiles: 1, of 720 bytes together, as the listing says. Refused: 1.$' "$out/got"
+held "run.sh on a refused entry"
 echo 'xyb intent=byte:4' >"$out/bad.txt"
 "$here/run.sh" "$out/bad.txt" "$out/bad" >"$out/got" 2>"$out/said"
 [ $? -eq 1 ] && grep -q '^The job is refused as a whole, 43: ' "$out/said"
@@ -158,14 +166,14 @@ refused() { # NUMBER WHAT INPUT
     answers profiles "$2" <"$3"
 }
 
-printf 'profiles 2\n2 1 504\n3 1 refused 2\n' >"$out/want"
-accepted "the job of 44 bytes" "$out/two.job" 504 f5a0eb4fe51f41b1b7f67928ca8796bf
+printf 'profiles 2\n2 1 504\n3 1 720\n' >"$out/want"
+accepted "the job of 44 bytes" "$out/two.job" 1224 4590f18dc689cdc5b4bc51881952db04
 
 # The same with every unused float made of bytes ff.
 {
     printf '\000\001\000' && ff 8 && printf '\000' && ff 24 && printf '\002' && ff 4 && printf '\000\001\001'
 } >"$out/unused.job"
-accepted "unused floats" "$out/unused.job" 504 f5a0eb4fe51f41b1b7f67928ca8796bf
+accepted "unused floats" "$out/unused.job" 1224 4590f18dc689cdc5b4bc51881952db04
 
 # The same, coming in two pieces.
 mkfifo "$out/pipe"
@@ -177,7 +185,7 @@ pieces() {
 pieces >"$out/pipe" &
 answers listing "a job in two pieces" <"$out/pipe"
 wait
-cp "$out/two/2-1.icc" "$out/want"
+cat "$out/two/2-1.icc" "$out/two/3-1.icc" >"$out/want"
 pieces >"$out/pipe" &
 answers profiles "a job in two pieces" <"$out/pipe"
 wait
@@ -206,12 +214,14 @@ gray  white=0,1e-12 curve=SRGB intent=Relative                                # 
 gray  white=nan,0.3 curve=SRGB intent=Relative                                # 7
 gray  white=E curve=BT709 intent=Saturation
 gray  white=D65 curve=nan intent=Relative                                     # 8
-xyb   intent=Saturation                                                       # 2
+xyb   intent=Saturation
 xyb   intent=Perceptual
+xyb   intent=Absolute
+xyb   intent=Relative
 END
 python3 "$here/make_job.py" "$out/mixed.txt" >"$out/mixed.job"
 cat >"$out/want" <<'END'
-profiles 19
+profiles 21
 1 1 refused 1
 1 2 refused 3
 1 3 refused 7
@@ -229,16 +239,19 @@ profiles 19
 2 9 544
 2 10 refused 8
 2 11 496
-3 1 refused 2
+3 1 720
 3 2 720
+3 3 720
+3 4 720
 END
-accepted "accepted and refused entries" "$out/mixed.job" 3168 97e129514309a375bcdd46b6bef4b6e9
+accepted "accepted and refused entries" "$out/mixed.job" 5328 7941295ce6e4000ec502528d3498ca19
 
 # The fullest job, 765 entries, no two gray or RGB ones alike.
 awk 'BEGIN {
+    split("Perceptual Relative Saturation Absolute", intents)
     for (i = 1; i <= 255; i++) {
         printf "rgb white=D65 primaries=SRGB curve=%.8f intent=Perceptual\n", i / 256
-        printf "xyb intent=%s\n", i % 2 ? "Perceptual" : "Relative"
+        printf "xyb intent=%s\n", intents[1 + i % 4]
         printf "gray white=D65 curve=%.8f intent=Perceptual\n", i / 256
     }
 }' >"$out/full.txt"
@@ -249,9 +262,9 @@ awk 'BEGIN {
     print "profiles 765"
     for (i = 1; i <= 255; i++) print 1, i, 324
     for (i = 1; i <= 255; i++) print 2, i, 508
-    for (i = 1; i <= 255; i++) print 3, i, i % 2 ? "720" : "refused 2"
+    for (i = 1; i <= 255; i++) print 3, i, 720
 }' >"$out/want"
-accepted "the fullest job" "$out/full.job" 304320 c102b1694b957db29958365044076379
+accepted "the fullest job" "$out/full.job" 395760 b2e6882aef1bd4574042f0f59a6ab340
 
 # ---- jobs that are refused
 

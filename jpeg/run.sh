@@ -141,7 +141,8 @@ put_by_us() { # KIND SIZE PLACE ORDER
     done
 }
 
-for kind in gray rgb xyb; do
+kinds='gray rgb xyb xyb-relative'
+for kind in $kinds; do
     third=$(($(wc -c <"$out/$kind.icc") / 3))
     put_by_us $kind 65519 start forward
     put_by_us $kind 65519 app0 forward
@@ -162,7 +163,7 @@ used() { # KIND
     cmp "$out/by-file" "$out/by-segments" && ! cmp -s "$out/by-file" "$out/$(picture_of "$1").pixels"
 }
 case $takers in
-*jpgicc*) for kind in gray rgb xyb; do check "$kind: jpgicc goes by it" used $kind; done ;;
+*jpgicc*) for kind in $kinds; do check "$kind: jpgicc goes by it" used $kind; done ;;
 esac
 
 # ---- a profile put into a JPEG file by other programs
@@ -185,7 +186,7 @@ joined() { # PROGRAM PROFILE PICTURE
     "put_by_$1" "$2" "$3" "$out/theirs.jpg" && taken us "$out/theirs.jpg" "$2"
 }
 
-for kind in gray rgb xyb; do
+for kind in $kinds; do
     for program in $putters; do
         check "$kind: put in by $program, joined by us" joined "$program" "$out/$kind.icc" "$(picture_of $kind)"
     done

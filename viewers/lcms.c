@@ -3,6 +3,7 @@
  *    lcms tags PROFILE    the number of tags, and which of them lcms2 does not read
  *    lcms device PROFILE  the maker and the model, by the letters that their bytes are
  *    lcms id PROFILE      the id in the header, by hexadecimal digits
+ *    lcms intent PROFILE  the intent in the header, by its number, and the description
  *    lcms white PROFILE   the white of the device in the PCS, relative and absolute, and in lcms2's own sRGB with eight bits
  *    lcms like PROFILE WX WY [RX RY GX GY BX BY] CURVE
  *                         the largest difference in Lab, on a grid of colors, to a profile that lcms2 makes itself from these; CURVE is srgb,
@@ -53,6 +54,13 @@ static int header_id(cmsHPROFILE profile) {
     printf("id\t");
     for (int i = 0; i < 16; i++) printf("%02x", id[i]);
     printf("\n");
+    return 0;
+}
+
+static int intent_and_text(cmsHPROFILE profile) {
+    char text[400]; /* ours have at most 372 letters */
+    if (!cmsGetProfileInfoASCII(profile, cmsInfoDescription, "en", "US", text, sizeof text)) return 1;
+    printf("intent\t%u\t%s\n", (unsigned)cmsGetHeaderRenderingIntent(profile), text);
     return 0;
 }
 
@@ -192,13 +200,13 @@ int main(int argc, char **argv) {
     static const struct {
         const char *word;
         int (*look)(cmsHPROFILE);
-    } looks[] = {{"tags", tags}, {"device", maker_and_model}, {"id", header_id}, {"white", white}, {"srgb", srgb}};
+    } looks[] = {{"tags", tags}, {"device", maker_and_model}, {"id", header_id}, {"intent", intent_and_text}, {"white", white}, {"srgb", srgb}};
     int (*look)(cmsHPROFILE) = NULL;
     for (size_t i = 0; i < sizeof looks / sizeof looks[0]; i++)
         if (strcmp(word, looks[i].word) == 0) look = looks[i].look;
     const int compare = strcmp(word, "like") == 0 && (argc == 6 || argc == 12);
     if (!compare && !(look && argc == 3)) {
-        fprintf(stderr, "lcms version, lcms tags|device|id|white|srgb PROFILE, or lcms like PROFILE WX WY [RX RY GX GY BX BY] CURVE\n");
+        fprintf(stderr, "lcms version, lcms tags|device|id|intent|white|srgb PROFILE, or lcms like PROFILE WX WY [RX RY GX GY BX BY] CURVE\n");
         return 2;
     }
     cmsSetLogErrorHandler(say);

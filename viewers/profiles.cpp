@@ -48,6 +48,7 @@ int main(int argc, char **argv) {
         {"gray-own", "gray", Encoding::gray(own_white, Curve::linear(), Intent::perceptual), "0.3457 0.3585 1"},
         {"gray-dci-gamma", "gray", Encoding::gray(White::dci(), gamma, relative), "0.314 0.351 2.2"},
         {"xyb", "XYB", Encoding::xyb(), ""},
+        {"xyb-relative", "XYB", Encoding::xyb(relative), ""},
     };
     for (const auto &one : all) {
         const merqyduk::Profile profile = merqyduk::write(one.encoding);
