@@ -197,7 +197,7 @@ def decimals(x):
     return "NaN" if x != x else "inf" if x > 0 else "-inf"
 
 
-def xyb():
+def xyb(intent):
     """[10]"""
     identity = 3 * para(0, (65536,))
     a2b0 = b"mAB " + word(0) + bytes((3, 3, 0, 0)) + words((32, 244, 148, 80, 32)) + identity
@@ -205,7 +205,7 @@ def xyb():
     a2b0 += b"".join(para(3, curve) for curve in XYB_M_CURVES) + words(XYB_MATRIX)
     b2a0 = b"mBA " + word(0) + bytes((3, 3, 0, 0)) + words((32, 0, 0, 0, 0)) + identity
     elements = [(("chad",), sf32(XYB_CHAD)), (("A2B0",), a2b0), (("B2A0",), b2a0)]
-    return file(b"scnrRGB ", 0, first("XYB_Per", D50_FIXED) + elements)
+    return file(b"scnrRGB ", intent, first(f"XYB_{INTENTS[intent]}", D50_FIXED) + elements)
 
 
 def gray(white, curve, g, intent):
@@ -250,9 +250,7 @@ def profile(fields):
     if used and curve in (PQ, HLG):
         raise Refused(1)
     if kind == 3:
-        if intent != 0:
-            raise Refused(2)
-        return xyb()
+        return xyb(intent)
     wx, wy = floats(fields[3:5] if white == OWN else WHITES[white].split())
     white_name = f"{decimals(wx)};{decimals(wy)}" if white == OWN else ("D65", "EER", "DCI")[white]
     (g,) = floats(fields[13:14])

@@ -37,7 +37,7 @@ tag s b = under (s ∷ []) b
 abbrev pub D50 : List ℤ
 D50 = pos 63190 ∷ pos 65536 ∷ pos 54061 ∷ []
 
--- the text of the XYB plan with this intent (02, order 8); no plan has an intent above 3
+-- the text of the XYB plan with this intent (02, order 8); above 3, where no plan is, it is Perceptual's
 unfoldable pub xybText : ℕ → List ℕ
 xybText i = ascii "XYB_" ++ intentName (valueOr Perceptual (intentFrom i))
 

@@ -3,6 +3,7 @@
 use std::fmt::{Debug, Display, Formatter, Result as Printed};
 
 use judge::answer;
+use judge::encoding::XYB;
 use judge::inputs::jobs::Source;
 use judge::inputs::{Random, encodings, job_cases};
 use judge::jobs::{self, Answer};
@@ -52,13 +53,18 @@ pub fn jobs(run: &mut Run) {
     }
 }
 
+/// The refusals of an entry. Number 2 no longer occurs.
+const REFUSALS: [u32; 7] = [1, 3, 4, 5, 6, 7, 8];
+
 /// How many jobs and entries got each answer.
 #[derive(Default)]
 struct Met {
     /// Good, and refused by 41, 42 and 43.
     jobs: [u64; 4],
-    /// Accepted, and refused by 1 to 8.
-    entries: [u64; 9],
+    /// Accepted, and refused by each of `REFUSALS`.
+    entries: [u64; 1 + REFUSALS.len()],
+    /// Of the accepted, those of XYB, by intent.
+    xyb: [u64; 4],
 }
 
 impl Met {
@@ -66,13 +72,20 @@ impl Met {
         let number = *answer.as_ref().err().unwrap_or(&40) as usize - 40;
         self.jobs[number] += 1;
         for entry in answer.iter().flatten() {
-            let number = *entry.profile.as_ref().err().unwrap_or(&0) as usize;
-            self.entries[number] += 1;
+            let place = |number| REFUSALS.iter().position(|one| *one == number);
+            let place = match entry.profile {
+                Ok(_) => 0,
+                Err(number) => 1 + place(number).expect("a refusal of an entry"),
+            };
+            self.entries[place] += 1;
+            if entry.section == XYB && entry.profile.is_ok() {
+                self.xyb[usize::from(entry.encoding.intent)] += 1;
+            }
         }
     }
 
     fn lacks_one(&self) -> bool {
-        self.jobs.contains(&0) || self.entries.contains(&0)
+        self.jobs.contains(&0) || self.entries.contains(&0) || self.xyb.contains(&0)
     }
 }
 
@@ -83,8 +96,14 @@ impl Display for Met {
             write!(f, ", {times} refused {number}")?;
         }
         let entries: u64 = self.entries.iter().sum();
-        write!(f, "; {entries} entries: {} accepted", self.entries[0])?;
-        for (number, times) in (1..).zip(&self.entries[1..]) {
+        let [perceptual, relative, saturation, absolute] = self.xyb;
+        write!(
+            f,
+            "; {entries} entries: {} accepted, of these XYB by intent {perceptual} {relative} \
+             {saturation} {absolute}",
+            self.entries[0]
+        )?;
+        for (number, times) in REFUSALS.iter().zip(&self.entries[1..]) {
             write!(f, ", {times} refused {number}")?;
         }
         Ok(())

@@ -2,8 +2,10 @@
 
 use std::fmt::{Display, Formatter, Result as Printed};
 use std::path::Path;
+use std::sync::LazyLock;
 
-use judge::encoding::{Device, GRAY, RGB, XYB};
+use judge::answer;
+use judge::encoding::{Device, Encoding, GRAY, RGB, XYB};
 use judge::inputs::{Random, damage, plans, profile_cases};
 use judge::list::hex;
 use judge::profiles::{self, Sheet, change_id, set_id, set_size, zero_id};
@@ -77,8 +79,8 @@ impl Reading {
 
 /// The answers to a file that was written: as it is, with zeros in place of its id, and with one bit of
 /// the id and of the zeros changed. Those that are due, which follow from the plan of the first: that
-/// plan, the same with the mark, and 28 twice; and those of the port.
-pub fn of_written(file: &[u8], bit: usize) -> [[Reading; 4]; 2] {
+/// plan, with the encoding's kind and intent, the same with the mark, and 28 twice; and those of the port.
+pub fn of_written(encoding: &Encoding, file: &[u8], bit: usize) -> [[Reading; 4]; 2] {
     let mut zeros = file.to_vec();
     zero_id(&mut zeros);
     let [near, near_zeros] = [file, &zeros].map(|from| {
@@ -89,7 +91,8 @@ pub fn of_written(file: &[u8], bit: usize) -> [[Reading; 4]; 2] {
     let found = [file, &zeros, &near, &near_zeros].map(port::read);
     let [read, marked] = [0, 1].map(|mark| {
         let mut reading = found[0].clone();
-        (reading.codes[0], reading.codes[5]) = (0, mark);
+        reading.codes[..3].copy_from_slice(&[0, encoding.kind.into(), encoding.intent.into()]);
+        reading.codes[5] = mark;
         reading
     });
     let refused = Reading::due(&Err(28));
@@ -143,8 +146,8 @@ fn record_differs(file: &[u8], due: &Reading) -> Option<String> {
     None
 }
 
-/// Tries the cases and random files in turn, then random files only; each that is accepted also
-/// under other ids.
+/// Tries the cases and random files in turn, then random files only; each that is accepted, and each
+/// XYB file with the text of another intent, also under other ids.
 pub fn reader(run: &mut Run) {
     let mut random = Random::new(run.seed);
     let mut cases = profile_cases::cases(&mut random).into_iter();
@@ -154,7 +157,7 @@ pub fn reader(run: &mut Run) {
     for tried in 0..run.count {
         let case = if tried % 2 == 0 { cases.next() } else { None };
         let file = case.unwrap_or_else(|| damage::file(&mut random));
-        if trial(run, &file, &mut met) {
+        if trial(run, &file, &mut met) || is_crossed(&file) {
             for file in under_other_ids(&mut apart, &file) {
                 trial(run, &file, &mut other_ids);
             }
@@ -168,6 +171,10 @@ pub fn reader(run: &mut Run) {
     println!(
         "reader: {} files, {} differences ({met}; under other ids {other_ids})",
         run.count, run.differences
+    );
+    println!(
+        "reader, XYB: {}; under other ids {}",
+        met.xyb, other_ids.xyb
     );
     if run.count >= ENOUGH && met.lacks_one() {
         println!("reader: an answer never occurred");
@@ -284,10 +291,57 @@ fn trial(run: &mut Run, file: &[u8], met: &mut Met) -> bool {
     if expected != found {
         differences.push(format!("read: expected {expected:?}, found {found:?}"));
     }
+    if is_crossed(file) {
+        let (due, found) = (expected.codes[0], found.codes[0]);
+        met.xyb.crossed(file, [due, found] == [26; 2]);
+        if [due, found] != [26; 2] {
+            differences.push(format!("crossed text: the judge {due}, the port {found}"));
+        }
+    }
     differences.extend(record_differs(file, &expected));
-    for signature in asked(file, answer.is_ok()) {
+    differences.extend(find_differs(file, answer.is_ok()));
+    run.differences += usize::from(!differences.is_empty());
+    if run.differences <= 3 {
+        for difference in &differences {
+            println!("file {}\n{difference}", hex(file));
+        }
+    }
+    answer.is_ok()
+}
+
+/// Whether an XYB file has the text of another intent than its header's, both below 4, and is what is
+/// written otherwise. Maker, model and id may be any. By 02's order 8 it is refused by 26.
+fn is_crossed(file: &[u8]) -> bool {
+    static WRITTEN: LazyLock<[Vec<u8>; 4]> = LazyLock::new(|| {
+        [0, 1, 2, 3].map(|intent| {
+            let file = answer::profile(&Encoding::xyb(intent)).expect("accepted");
+            without_free_bytes(&file)
+        })
+    });
+    if file.len() != WRITTEN[0].len() {
+        return false;
+    }
+    let blank = without_free_bytes(file);
+    let text = WRITTEN.iter().position(|written| *written == blank);
+    let header = u32::from_be_bytes(file[64..68].try_into().expect("four bytes"));
+    text.is_some_and(|text| header < 4 && header as usize != text)
+}
+
+/// The file with zeros for maker, model, intent and id.
+fn without_free_bytes(file: &[u8]) -> Vec<u8> {
+    let mut blank = file.to_vec();
+    for free in [48..56, 64..68, 84..100] {
+        blank[free].fill(0);
+    }
+    blank
+}
+
+/// What the finder answers otherwise than is due.
+fn find_differs(file: &[u8], accepted: bool) -> Vec<String> {
+    let mut differences = Vec::new();
+    for signature in asked(file, accepted) {
         // 01 leaves open where an empty part lies; the port's is at the front of the file.
-        let part = reader::place(file, answer.is_ok(), signature);
+        let part = reader::place(file, accepted, signature);
         let expected = part.map_or((0, 0), |(place, length)| (place as isize, length));
         let found = port::find(file, signature);
         if expected != found {
@@ -306,13 +360,7 @@ fn trial(run: &mut Run, file: &[u8], met: &mut Met) -> bool {
             ));
         }
     }
-    run.differences += usize::from(!differences.is_empty());
-    if run.differences <= 3 {
-        for difference in &differences {
-            println!("file {}\n{difference}", hex(file));
-        }
-    }
-    answer.is_ok()
+    differences
 }
 
 /// The signatures to ask for: of an accepted file all, of a refused one three that its table may
@@ -336,6 +384,7 @@ struct Met {
     devices: u64,
     /// And those whose id is not computed.
     marks: u64,
+    xyb: MetXyb,
 }
 
 impl Met {
@@ -345,11 +394,17 @@ impl Met {
         let device = |plan: &Plan| plan.device != Device::default();
         self.devices += u64::from(answer.as_ref().is_ok_and(device));
         self.marks += u64::from(answer.as_ref().is_ok_and(|plan| plan.id_not_computed));
+        if let Ok(plan) = answer
+            && plan.kind == XYB
+        {
+            self.xyb.accepted[plan.intent as usize] += 1;
+        }
     }
 
     fn lacks_one(&self) -> bool {
         let both = |some: u64| (1..self.answers[0]).contains(&some);
-        self.answers.contains(&0) || !both(self.devices) || !both(self.marks)
+        let lacks = self.answers.contains(&0) || !both(self.devices) || !both(self.marks);
+        lacks || self.xyb.lacks_one()
     }
 }
 
@@ -366,5 +421,56 @@ impl Display for Met {
             write!(f, ", {times} refused {number}")?;
         }
         Ok(())
+    }
+}
+
+/// What was due of XYB files.
+#[derive(Default)]
+struct MetXyb {
+    /// Accepted, by intent.
+    accepted: [u64; 4],
+    /// With the text of another intent: by their right id, with zeros in place of it, and by another.
+    crossed: [u64; 3],
+    /// Of these, refused by 26 by both.
+    refused: u64,
+}
+
+impl MetXyb {
+    fn crossed(&mut self, file: &[u8], refused: bool) {
+        let id = &file[84..100];
+        let place = if id == reader::id(file) {
+            0
+        } else if id == [0; 16] {
+            1
+        } else {
+            2
+        };
+        self.crossed[place] += 1;
+        self.refused += u64::from(refused);
+    }
+
+    fn lacks_one(&self) -> bool {
+        let [right, zeros, _] = self.crossed;
+        self.accepted.contains(&0) || right == 0 || zeros == 0
+    }
+}
+
+impl Display for MetXyb {
+    fn fmt(&self, f: &mut Formatter<'_>) -> Printed {
+        let [perceptual, relative, saturation, absolute] = self.accepted;
+        write!(
+            f,
+            "accepted by intent {perceptual} {relative} {saturation} {absolute}"
+        )?;
+        let [right, zeros, other] = self.crossed;
+        match right + zeros + other {
+            0 => Ok(()),
+            all => write!(
+                f,
+                "; crossed texts {all}, {right} with the right id, {zeros} with zeros and {other} with \
+                 another, of these {} refused 26",
+                self.refused
+            ),
+        }
     }
 }

@@ -3,6 +3,7 @@
 use std::alloc::{Layout, alloc_zeroed, dealloc};
 use std::fmt::{Display, Formatter, Result as Printed};
 
+use judge::encoding::Encoding;
 use judge::inputs::Random;
 use judge::inputs::segments::{self as inputs, FAULTS, Fault, File, Files, LARGEST_ROOM, LONGEST};
 use judge::list::hex;
@@ -37,15 +38,17 @@ pub fn segments(run: &mut Run) {
 
 // ---- the parts
 
-/// Every size for four files, and for one of them with zeros in place of its id; of segments of the
-/// latter two every byte, of those with an id also every length, number and count.
+/// Every size for five files, two of them XYB of different intents, and for the gray one with zeros in
+/// place of its id; of segments of the latter two every byte, of those with an id also every length,
+/// number and count.
 fn cases(run: &mut Run, random: &mut Random) -> Result<(), String> {
     let profiles = bench::encodings().map(|(_, encoding)| answer::profile(&encoding));
     let [srgb, own, gray, xyb] = profiles.map(|profile| profile.expect("these are accepted"));
+    let relative = answer::profile(&Encoding::xyb(1)).expect("accepted");
     let mut zeros = gray.clone();
     zero_id(&mut zeros);
-    let files = [srgb, own, gray, xyb, zeros].map(File::new);
-    let [.., gray, _, zeros] = &files;
+    let files = [srgb, own, xyb, relative, gray, zeros].map(File::new);
+    let [.., gray, zeros] = &files;
     let changed = [gray, zeros].map(|file| (file, around(&file.bytes)));
     let sizes: usize = files.iter().map(|file| file.bytes.len() + 8).sum();
     let changes: usize = changed.iter().map(|(_, all)| all.len()).sum();
@@ -346,6 +349,8 @@ struct Met {
     long: [u64; 4],
     /// Of the accepted files, those with zeros in place of their id.
     zeros: u64,
+    /// And those of XYB, by intent.
+    xyb: [u64; 4],
     /// Refused by 53: outside the limits, and too many segments.
     sizes: [u64; 2],
     /// Refused by 54, by the fault; at the end without a name for it.
@@ -376,6 +381,9 @@ impl Met {
     fn accepted(&mut self, file: &[u8]) {
         self.read[0] += 1;
         self.zeros += u64::from(file[84..100] == [0; 16]);
+        if file[12..16] == *b"scnr" {
+            self.xyb[usize::from(file[67])] += 1;
+        }
     }
 
     fn refused(&mut self, length: usize, number: u32) {
@@ -402,7 +410,7 @@ impl Met {
     }
 
     fn lacks_of_both(&self) -> bool {
-        let both = (1..self.read[0]).contains(&self.zeros);
+        let both = (1..self.read[0]).contains(&self.zeros) && !self.xyb.contains(&0);
         self.read.contains(&0) || !both || self.long.contains(&0) || self.outputs == 0
     }
 }
@@ -410,9 +418,11 @@ impl Met {
 impl Display for Met {
     /// What never occurred is left out.
     fn fmt(&self, f: &mut Formatter<'_>) -> Printed {
+        let [perceptual, relative, saturation, absolute] = self.xyb;
         write!(
             f,
-            "{} accepted, of these {} with a zero id",
+            "{} accepted, of these {} with a zero id, and XYB by intent {perceptual} {relative} \
+             {saturation} {absolute}",
             self.read[0], self.zeros
         )?;
         let [outside, many] = self.sizes;

@@ -31,8 +31,9 @@ pub fn writer(run: &mut Run) {
             "writer with maker and model",
             run.count + run.count / BESIDE,
         ),
+        beside: Tally::new("writer and dry call, beside", run.count / BESIDE),
         met: Met::default(),
-        read: Tally::new("written files read", 2 * run.count + run.count / BESIDE),
+        read: Tally::new("written files read", 2 * (run.count + run.count / BESIDE)),
     };
     while plain.tried < run.count {
         for (encoding, room) in calls(&mut random, PART.min(run.count - plain.tried)) {
@@ -167,6 +168,8 @@ fn lengths(answer: impl Fn(usize) -> usize, room: usize) -> [usize; 5] {
 struct WithDevice {
     random: Random,
     tally: Tally,
+    /// The encodings that come beside the others, with maker and model zero.
+    beside: Tally,
     met: Met,
     /// The files of both ways, each under four ids.
     read: Tally,
@@ -181,7 +184,7 @@ impl WithDevice {
         let profile = call.given.map(|bytes| answer::with_device(bytes, device));
         let given = profile.as_deref().map_err(|number| *number);
         let due = Written::due(given, room);
-        self.met.add(encoding.kind, due.answer);
+        self.met.add(encoding, due.answer);
         let answers = [due.answer; 2];
         let write = |out: &mut [u8]| port::write_device(encoding, device, out) as usize;
         let found = Written::by(write, room);
@@ -197,18 +200,18 @@ impl WithDevice {
     /// Reads a file that was written by its id, without it, and with a bit changed, another each time.
     fn read_back(&mut self, encoding: &Encoding, written: &Written) {
         if let Some(file) = written.file() {
-            let [due, found] = reader::of_written(file, self.read.tried % 128);
+            let [due, found] = reader::of_written(encoding, file, self.read.tried % 128);
             self.read.add(encoding, &due, &found);
         }
     }
 
-    /// What the encodings of the comparison have little of: XYB, numbers without meaning, and outputs
-    /// of about the profile's length.
+    /// What the encodings of the comparison have little of: XYB, each intent alike, numbers without
+    /// meaning, and outputs of about the profile's length. Both ways are tried.
     fn beside(&mut self, encoding: &Encoding) {
         let random = &mut self.random;
         let encoding = match random.below(3) {
             0 => *encoding,
-            1 => Encoding::xyb(random.pick(&[0, 0, 0, 1, 2, 3])),
+            1 => Encoding::xyb(random.below(4) as u8),
             _ => encodings::without_meaning(random, *encoding),
         };
         let known = encoding.original().ok_or(43);
@@ -216,16 +219,24 @@ impl WithDevice {
         let length = profile.as_ref().map_or(0, Vec::len);
         let rooms = [length, length.saturating_sub(1), length + 1, 0, LONG];
         let call = Call::new(&encoding, random.pick(&rooms), &profile);
-        self.call(&call, &call.answers());
+        let found = call.answers();
+        self.beside.add(&(encoding, call.room), &call.due(), &found);
+        self.read_back(&encoding, &found.written);
+        self.call(&call, &found);
     }
 
     fn finish(self, run: &mut Run) {
         let Self {
-            tally, met, read, ..
+            tally,
+            beside,
+            met,
+            read,
+            ..
         } = self;
+        println!("{beside}");
         println!("{tally} ({met})");
         println!("{read}");
-        run.differences += tally.different + read.different;
+        run.differences += beside.different + tally.different + read.different;
         if run.count >= ENOUGH && met.lacks_one() {
             println!("{}: an answer never occurred", tally.name);
             run.differences += 1;
@@ -233,23 +244,34 @@ impl WithDevice {
     }
 }
 
-/// The kinds of files, and the refusals.
-const KINDS: [(u8, &str); 3] = [(GRAY, "gray"), (RGB, "RGB"), (XYB, "XYB")];
-const REFUSALS: [usize; 10] = [1, 2, 3, 4, 5, 6, 7, 8, 9, 43];
+/// The kinds of files, XYB by intent, and the refusals. Number 2 no longer occurs.
+const KINDS: [(u8, u8, &str); 6] = [
+    (GRAY, 0, "gray"),
+    (RGB, 0, "RGB"),
+    (XYB, 0, "XYB Perceptual"),
+    (XYB, 1, "XYB Relative"),
+    (XYB, 2, "XYB Saturation"),
+    (XYB, 3, "XYB Absolute"),
+];
+const REFUSALS: [usize; 9] = [1, 3, 4, 5, 6, 7, 8, 9, 43];
 
 /// How often each answer was due.
 #[derive(Default)]
 struct Met {
-    /// By kind.
-    files: BTreeMap<u8, u64>,
+    /// By kind and, for XYB, intent.
+    files: BTreeMap<(u8, u8), u64>,
     refused: BTreeMap<usize, u64>,
 }
 
 impl Met {
-    fn add(&mut self, kind: u8, answer: usize) {
+    fn add(&mut self, encoding: &Encoding, answer: usize) {
+        let intent = match encoding.kind {
+            XYB => encoding.intent,
+            _ => 0,
+        };
         let times = match REFUSALS.contains(&answer) {
             true => self.refused.entry(answer).or_default(),
-            false => self.files.entry(kind).or_default(),
+            false => self.files.entry((encoding.kind, intent)).or_default(),
         };
         *times += 1;
     }
@@ -261,8 +283,8 @@ impl Met {
 
 impl Display for Met {
     fn fmt(&self, f: &mut Formatter<'_>) -> Printed {
-        let files = KINDS.map(|(kind, name)| {
-            let times = self.files.get(&kind).unwrap_or(&0);
+        let files = KINDS.map(|(kind, intent, name)| {
+            let times = self.files.get(&(kind, intent)).unwrap_or(&0);
             format!("{times} {name}")
         });
         write!(f, "{}", files.join(", "))?;

@@ -2,7 +2,7 @@
 //! are told by a copy of the original that reports them (build.sh) and is otherwise the same.
 
 use judge::answer;
-use judge::encoding::{Encoding, GAMMA, GRAY, RGB};
+use judge::encoding::{Encoding, GAMMA, GRAY, PERCEPTUAL, RGB, XYB};
 use jxl::api::color as original;
 use jxl_counted::api::color as copy;
 
@@ -12,12 +12,20 @@ pub struct Profile {
     pub floats: Vec<f32>,
 }
 
-/// The profile, or the number of the refusal (1 to 8).
+/// The profile, or the number of the refusal (1, or 3 to 8). The copy refuses XYB with another intent
+/// than Perceptual, as the original does; the floats are then those of its Perceptual file.
 ///
 /// # Panics
 /// If the copy answers otherwise than the original, or reports fewer or more floats than the file
 /// has fixed numbers.
 pub fn profile(encoding: &Encoding) -> Result<Profile, u32> {
+    if encoding.kind == XYB && encoding.intent != PERCEPTUAL {
+        let copied = copied(encoding).maybe_create_profile();
+        assert!(copied.is_err(), "{encoding:?}: the copy {copied:?}");
+        let Profile { floats, .. } = profile(&Encoding::xyb(PERCEPTUAL))?;
+        let bytes = answer::profile(encoding)?;
+        return Ok(Profile { bytes, floats });
+    }
     let given = answer::profile(encoding);
     // PQ and HLG are refused before the original is asked; it would stop the program.
     if encoding.is_pq_or_hlg() {

@@ -78,7 +78,7 @@ fn any(random: &mut Random) -> Encoding {
         // XYB has an intent alone. What it does not use makes one differ from the next, and each is
         // tried with another output.
         0 => {
-            let mut encoding = Encoding::xyb(random.pick(&[0, 0, 0, intent]));
+            let mut encoding = Encoding::xyb(intent);
             encodings::fill_unused(|| random.bits32(), &mut encoding);
             encoding
         }

@@ -6,8 +6,8 @@ use std::ops::RangeInclusive;
 use judge::encoding::{Encoding, GAMMA, GRAY, RGB, XYB};
 use judge::leaves;
 
-/// The refusals of the calls.
-const REFUSALS: [u32; 10] = [1, 2, 3, 4, 5, 6, 7, 8, 9, 43];
+/// The refusals of the calls. Number 2 no longer occurs.
+const REFUSALS: [u32; 9] = [1, 3, 4, 5, 6, 7, 8, 9, 43];
 
 /// The fixed numbers of a file: gray with a gamma and with a named curve, RGB likewise, XYB.
 const FILES: [usize; 5] = [4, 8, 22, 26, 45];
@@ -26,6 +26,8 @@ pub struct Met {
     counts: BTreeMap<(u8, u32), u64>,
     /// By the fixed numbers of the file.
     files: BTreeMap<usize, u64>,
+    /// Files of XYB, by intent.
+    xyb: BTreeMap<u8, u64>,
     refused: BTreeMap<u32, u64>,
     floats: BTreeMap<Class, u64>,
 }
@@ -75,6 +77,9 @@ impl Met {
     pub fn accepted(&mut self, encoding: &Encoding, floats: &[f32], rounded: u32) {
         *self.counts.entry((encoding.kind, rounded)).or_default() += 1;
         *self.files.entry(floats.len()).or_default() += 1;
+        if encoding.kind == XYB {
+            *self.xyb.entry(encoding.intent).or_default() += 1;
+        }
         let mut classes: Vec<Class> = floats.iter().map(|x| Class::of(*x)).collect();
         // The curve comes last.
         let gamma = encoding.kind != XYB && encoding.curve.kind == GAMMA;
@@ -93,6 +98,7 @@ impl Met {
     pub fn add(&mut self, other: Self) {
         add(&mut self.counts, other.counts);
         add(&mut self.files, other.files);
+        add(&mut self.xyb, other.xyb);
         add(&mut self.refused, other.refused);
         add(&mut self.floats, other.floats);
     }
@@ -102,6 +108,8 @@ impl Met {
         let mut all = Vec::new();
         let files = FILES.iter().filter(|file| !self.files.contains_key(file));
         all.extend(files.map(|numbers| format!("a file of {numbers} numbers")));
+        let intents = (0..4).filter(|intent| !self.xyb.contains_key(intent));
+        all.extend(intents.map(|intent| format!("a file of XYB with intent {intent}")));
         let refusals = REFUSALS.iter().filter(|n| !self.refused.contains_key(n));
         all.extend(refusals.map(|number| format!("refusal {number}")));
         let gray = GRAY_COUNTS.into_iter().map(|count| (GRAY, count));
@@ -133,6 +141,14 @@ impl Met {
             if !counts.is_empty() {
                 lines.push(format!("{name} files with each count: {counts}"));
             }
+        }
+        let intents = joined(
+            self.xyb
+                .iter()
+                .map(|(intent, times)| format!("{intent}: {times}")),
+        );
+        if !intents.is_empty() {
+            lines.push(format!("XYB files by intent: {intents}"));
         }
         let numbers = joined(Class::ALL.iter().filter_map(|(class, name)| {
             let times = self.floats.get(class)?;

@@ -1,31 +1,57 @@
 //! The original's answer to an encoding, by the refusal numbers of the scope.
 //!
 //! The original has one error for 5, 7 and 8. They are told apart by calling its own pieces in its
-//! order; what they say is then held against the error of the whole call.
+//! order; what they say is then held against the error of the whole call. It refuses XYB with another
+//! intent than Perceptual; what is due there is made from its Perceptual file (02, order 8).
 
 use jxl::api::color::{JxlColorEncoding, open};
 use jxl::error::Error;
 
-use crate::encoding::{Device, Encoding, GAMMA, GRAY, XYB};
+use crate::encoding::{Device, Encoding, GAMMA, GRAY, PERCEPTUAL, XYB};
 use crate::leaves;
 use crate::profiles::set_id;
 
-/// The profile, or the number of the refusal (1 to 8).
+/// The profile, or the number of the refusal (1, or 3 to 8).
 ///
 /// # Panics
-/// If the pieces and the whole call disagree, or a number of the encoding has no meaning.
+/// If the pieces and the whole call disagree, if the original does not refuse XYB with another intent
+/// than Perceptual by `InvalidRenderingIntent`, or if a number of the encoding has no meaning.
 pub fn profile(encoding: &Encoding) -> Result<Vec<u8>, u32> {
     let original = meaning(encoding);
     if encoding.is_pq_or_hlg() {
         return Err(1);
     }
-    let pieces = by_pieces(encoding);
     let whole = original.maybe_create_profile();
-    match (whole, pieces) {
+    if encoding.kind == XYB && encoding.intent != PERCEPTUAL {
+        let refused = matches!(whole, Err(Error::InvalidRenderingIntent));
+        assert!(refused, "{encoding:?}: the original gives {whole:?}");
+        return Ok(xyb_of_other_intent(encoding));
+    }
+    match (whole, by_pieces(encoding)) {
         (Ok(Some(bytes)), Ok(())) => Ok(bytes),
         (Err(error), Err(refusal)) if refusal.is(&error) => Err(refusal.number),
         (whole, pieces) => panic!("{encoding:?}: the whole {whole:?}, the pieces {pieces:?}"),
     }
+}
+
+/// Where the letters of the text stand in the original's XYB file: behind 128 bytes of header, a table
+/// of six tags, and the 28 bytes that `desc` begins with. There are seven.
+const XYB_TEXT: std::ops::Range<usize> = 232..246;
+
+/// The Perceptual file with the intent in byte 67, the text of the intent, and the id that is then due.
+fn xyb_of_other_intent(encoding: &Encoding) -> Vec<u8> {
+    let perceptual = Encoding::xyb(PERCEPTUAL);
+    let mut file = profile(&perceptual).expect("the original writes this one");
+    assert_eq!(file[XYB_TEXT], utf16(&description(&perceptual)));
+    file[67] = encoding.intent;
+    file[XYB_TEXT].copy_from_slice(&utf16(&description(encoding)));
+    set_id(&mut file);
+    file
+}
+
+/// The letters of a text in UTF-16, the higher byte first.
+fn utf16(text: &str) -> Vec<u8> {
+    text.encode_utf16().flat_map(u16::to_be_bytes).collect()
 }
 
 /// The same for an output of `room` bytes, which adds refusal 9.
@@ -81,7 +107,6 @@ impl Refusal {
     /// Whether the original's error is this refusal.
     fn is(&self, error: &Error) -> bool {
         match (error, self.number) {
-            (Error::InvalidRenderingIntent, 2) => true,
             (Error::IccInvalidWhitePointY(_), 3) => true,
             (Error::IccInvalidWhitePoint(..), 4) => true,
             (Error::MatrixInversionFailed(_), 6) => true,
@@ -100,11 +125,7 @@ fn same_or_both_nan(a: f32, b: f32) -> bool {
 /// The first refusal, in the original's order, by its own pieces.
 fn by_pieces(encoding: &Encoding) -> Result<(), Refusal> {
     if encoding.kind == XYB {
-        return if encoding.intent == 0 {
-            Ok(())
-        } else {
-            Err(Refusal::plain(2))
-        };
+        return Ok(());
     }
     let (wx, wy) = encoding.white.coordinates().expect("a kind with meaning");
     if encoding.kind == GRAY {

@@ -23,6 +23,9 @@ pub const DCI_CURVE: u8 = 4;
 pub const HLG: u8 = 5;
 pub const GAMMA: u8 = 6;
 
+/// The only intent of XYB that the original writes.
+pub const PERCEPTUAL: u8 = 0;
+
 /// Kind 0 D65, 1 E, 2 DCI, 3 own; the coordinates count for 3 only.
 #[derive(Clone, Copy, Debug, Default, PartialEq, Eq, Hash)]
 pub struct White {

@@ -56,6 +56,7 @@ pub fn all() -> Vec<Example> {
     let mut all = fixed_numbers();
     all.extend(texts());
     all.extend(profiles());
+    all.extend(intents_of_xyb());
     all.extend(gammas());
     all.extend(layout());
     all.extend(curves());
@@ -182,7 +183,9 @@ fn profiles() -> Vec<Example> {
             328,
         ),
         Run::new("XYB", Encoding::xyb(0), 720),
-        Run::new("XYB Relative", Encoding::xyb(1), 2),
+        Run::new("XYB Relative", Encoding::xyb(1), 720),
+        Run::new("XYB Saturation", Encoding::xyb(2), 720),
+        Run::new("XYB Absolute", Encoding::xyb(3), 720),
     ];
     tried.extend(run());
     let text = Example::new(
@@ -201,6 +204,37 @@ fn profiles() -> Vec<Example> {
     std::iter::once(text)
         .chain(tried.into_iter().map(found))
         .collect()
+}
+
+/// XYB of the intents that the original refuses, by the words of 02's order 8: the header's intent, the
+/// text, and where the file differs from the Perceptual one, the id aside.
+fn intents_of_xyb() -> Vec<Example> {
+    let perceptual = profile(&Encoding::xyb(0));
+    let mut all = Vec::new();
+    for (intent, name, text, places) in [
+        (1, "Relative", "XYB_Rel", "67 241 245"),
+        (2, "Saturation", "XYB_Sat", "67 241 243 245"),
+        (3, "Absolute", "XYB_Abs", "67 241 243 245"),
+    ] {
+        let file = profile(&Encoding::xyb(intent));
+        let differs = |at: &usize| !(84..100).contains(at) && file[*at] != perceptual[*at];
+        let differing: Vec<String> = (0..file.len())
+            .filter(differs)
+            .map(|at| at.to_string())
+            .collect();
+        let letters = element(&file, b"desc")[28..].chunks_exact(2);
+        let letters = letters.map(|unit| char::from(unit[1])).collect();
+        let byte = file[67].to_string();
+        for (what, expected, found) in [
+            ("byte 67", intent.to_string().as_str(), byte),
+            ("text", text, letters),
+            ("bytes changed", places, differing.join(" ")),
+        ] {
+            let name = format!("XYB {name}: {what}");
+            all.push(Example::new(&name, expected, found));
+        }
+    }
+    all
 }
 
 fn gammas() -> Vec<Example> {
@@ -314,7 +348,7 @@ fn vectors() -> Vec<Example> {
     RFC_1321.map(one).into()
 }
 
-/// The listing that the scope prints whole, and the empty job.
+/// The listing that the scope prints whole, its last line by 02's order 8, and the empty job.
 fn listings() -> Vec<Example> {
     let job = job_cases::of_the_scope();
     let listing = |job: &[u8]| jobs::listing(&jobs::answer(job)).replace('\n', "/");
@@ -322,7 +356,7 @@ fn listings() -> Vec<Example> {
         Example::new("bytes of the job", "44", job.len().to_string()),
         Example::new(
             "listing of the job, with / for each end of a line",
-            "profiles 2/2 1 504/3 1 refused 2/",
+            "profiles 2/2 1 504/3 1 720/",
             listing(&job),
         ),
         Example::new("listing of an empty job", "job refused 41/", listing(&[])),

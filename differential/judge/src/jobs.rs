@@ -7,7 +7,7 @@ use crate::encoding::{Curve, Encoding, GRAY, Primaries, RGB, White, XYB};
 pub const SECTIONS: [u8; 3] = [GRAY, RGB, XYB];
 
 /// An entry, its place in the section from 1, and the original's answer to it: the profile, or the
-/// number of the refusal (1 to 8).
+/// number of the refusal (1, or 3 to 8).
 pub struct Entry {
     pub section: u8,
     pub place: u8,

@@ -57,7 +57,7 @@ impl Sheet {
         if plan.kind == XYB {
             return Self {
                 header,
-                tags: xyb_tags(),
+                tags: xyb_tags(plan.intent),
                 id_not_computed,
             };
         }
@@ -159,9 +159,16 @@ fn rgb_tags(plan: &Plan, tags: &mut Vec<Tag>) {
     }
 }
 
-/// The tags of XYB as the original writes them; none shares its element.
-fn xyb_tags() -> Vec<Tag> {
-    let file = answer::profile(&Encoding::xyb(0)).expect("accepted");
+/// The tags of XYB of an intent as they are written; none shares its element.
+fn xyb_tags(intent: u32) -> Vec<Tag> {
+    static WRITTEN: LazyLock<[Vec<Tag>; 4]> =
+        LazyLock::new(|| [0, 1, 2, 3].map(|intent| tags_written(&Encoding::xyb(intent))));
+    WRITTEN[intent as usize].clone()
+}
+
+/// The tags of a profile of which none shares its element.
+fn tags_written(encoding: &Encoding) -> Vec<Tag> {
+    let file = answer::profile(encoding).expect("accepted");
     let word = |at: usize| u32::from_be_bytes(file[at..at + 4].try_into().expect("four bytes"));
     let lines = (0..word(128) as usize).map(|line| 132 + 12 * line);
     let tags = lines.map(|at| {

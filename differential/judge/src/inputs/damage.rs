@@ -3,6 +3,8 @@
 use super::plans::{self, ENDS, NAMED, PRIMARIES};
 use super::random::Random;
 use super::{below, byte, devices};
+use crate::answer;
+use crate::encoding::{Encoding, XYB};
 use crate::profiles::{
     self, Sheet, Tag, change_id, cicp, header, parametric, set_id, set_size, zero_id,
 };
@@ -10,7 +12,7 @@ use crate::reader::Plan;
 
 /// A file for the reader: three in ten are whole, the others have faults, one or several. In half of
 /// them the id is made anew after the faults; in one of 24 a bit of it is changed; in some zeros take
-/// its place.
+/// its place. Of XYB some have another text, whatever else they have.
 pub fn file(random: &mut Random) -> Vec<u8> {
     let plan = match random.below(3) {
         0 => Plan {
@@ -20,6 +22,10 @@ pub fn file(random: &mut Random) -> Vec<u8> {
         _ => plans::plan(random),
     };
     let mut sheet = Sheet::of(&plan);
+    if plan.kind == XYB {
+        // Numbers of its own: those set apart here have made maker, model and intent.
+        text_of_xyb(&mut Random::new(random.apart().bits64()), &mut sheet);
+    }
     let (in_tags, in_bytes) = match random.below(20) {
         0..6 => (0, 0),
         6..11 => (1, 0),
@@ -44,9 +50,10 @@ pub fn file(random: &mut Random) -> Vec<u8> {
     file
 }
 
-/// One file in four gets zeros in place of its id.
+/// One file in four gets zeros in place of its id. The numbers are its own: of an XYB plan, those set
+/// apart here may be the ones that made maker and model.
 pub fn zero_some(random: &Random, file: &mut [u8]) {
-    if random.apart().below(4) == 0 {
+    if Random::new(random.apart().bits64()).below(4) == 0 {
         zero_id(file);
     }
 }
@@ -90,6 +97,23 @@ fn element(sheet: &mut Sheet, signature: &[u8; 4], element: Vec<u8>) {
             tag.element = Some(element.clone());
         }
     }
+}
+
+/// One XYB file in four gets the text of any intent, one in eight a text with one letter changed.
+fn text_of_xyb(random: &mut Random, sheet: &mut Sheet) {
+    let intent = random.below(4) as u8;
+    let mut text: Vec<u16> = answer::description(&Encoding::xyb(intent))
+        .encode_utf16()
+        .collect();
+    match random.below(8) {
+        0 | 1 => {}
+        2 => {
+            let at = below(random, text.len());
+            text[at] ^= 1 << random.below(7);
+        }
+        _ => return,
+    }
+    element(sheet, b"desc", profiles::text(&text));
 }
 
 /// Tags or parts of them exchanged, left out or there twice.

@@ -137,7 +137,7 @@ impl Source {
     /// An encoding of a section.
     pub fn encoding(&self, random: &mut Random, section: u8) -> Encoding {
         if section == XYB {
-            return Encoding::xyb(random.pick(&[0, 0, 0, 0, 1, 2, 3]));
+            return Encoding::xyb(random.below(INTENTS.into()) as u8);
         }
         let mut encoding = match random.below(10) {
             0..3 => random.pick(&self.boundary[usize::from(section) - 1]),

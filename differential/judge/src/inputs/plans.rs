@@ -45,12 +45,14 @@ pub fn text(random: &mut Random, letters: usize) -> Vec<u8> {
 /// A plan of a kind with a text of some letters; `gamma` and `cicp` say which curve and whether
 /// the tag is there. Maker and model are any.
 pub fn of_shape(random: &mut Random, kind: u8, letters: usize, gamma: bool, cicp: bool) -> Plan {
+    let mut apart = random.apart();
     let mut plan = Plan {
         kind,
-        device: devices::or_zeros(&mut random.apart()),
+        device: devices::or_zeros(&mut apart),
         ..Plan::default()
     };
     if kind == XYB {
+        plan.intent = apart.below(4);
         return plan;
     }
     plan.intent = random.below(4);

@@ -50,7 +50,7 @@ fn without_id(file: &[u8]) -> Vec<u8> {
 }
 
 fn cases_of(random: &mut Random, device: Device, files: &mut Vec<Vec<u8>>) {
-    for (plan, letters) in bases(random) {
+    for plan in bases(random) {
         let plan = Plan { device, ..plan };
         let file = Sheet::of(&plan).bytes();
         files.push(file.clone());
@@ -60,7 +60,9 @@ fn cases_of(random: &mut Random, device: Device, files: &mut Vec<Vec<u8>>) {
         lines_exchanged(&file, files);
         headers(&file, files);
         ids(&file, files);
-        if letters > 0 {
+        if plan.kind == XYB {
+            names_mixed(&plan, files);
+        } else {
             text_lengths(random, &plan, files);
             free_numbers(&plan, files);
         }
@@ -68,20 +70,21 @@ fn cases_of(random: &mut Random, device: Device, files: &mut Vec<Vec<u8>>) {
     }
 }
 
-/// A plan of each shape, and its letters (0 for XYB); and the plan of sRGB as it is written.
-fn bases(random: &mut Random) -> Vec<(Plan, usize)> {
+/// A plan of each shape, of XYB one for each intent; and the plan of sRGB as it is written.
+fn bases(random: &mut Random) -> Vec<Plan> {
     let mut all = Vec::new();
     for (letters, (kind, gamma, cicp)) in (1..).zip(SHAPES) {
-        let plan = plans::of_shape(random, kind, letters, gamma, cicp);
-        all.push((plan, letters));
+        all.push(plans::of_shape(random, kind, letters, gamma, cicp));
     }
     let xyb = plans::of_shape(random, XYB, 0, false, false);
-    all.push((xyb, 0));
+    let of_intent = |intent| Plan {
+        intent,
+        ..xyb.clone()
+    };
+    all.extend((0..4).map(of_intent));
     let srgb = Encoding::rgb(White::named(0), Default::default(), SRGB, 0);
     let written = answer::profile(&srgb).expect("accepted");
-    let plan = reader::read(&written).expect("accepted");
-    let letters = plan.text.len();
-    all.push((plan, letters));
+    all.push(reader::read(&written).expect("accepted"));
     all
 }
 
@@ -186,6 +189,21 @@ fn ids(file: &[u8], files: &mut Vec<Vec<u8>>) {
         for mut changed in [file.to_vec(), without_id(file)] {
             change_id(&mut changed, bit);
             files.push(changed);
+        }
+    }
+}
+
+/// XYB with every text whose last three letters each have their place in the short name of an intent:
+/// its own, those of the three others, and 44 that no plan has.
+fn names_mixed(plan: &Plan, files: &mut Vec<Vec<u8>>) {
+    for first in *b"PRSA" {
+        for second in *b"eab" {
+            for third in *b"rlts" {
+                let text = [b'X', b'Y', b'B', b'_', first, second, third];
+                let mut sheet = Sheet::of(plan);
+                sheet.tags[0].element = Some(profiles::text(&text.map(u16::from)));
+                files.push(sheet.bytes());
+            }
         }
     }
 }

@@ -34,6 +34,7 @@ pub fn all(seed: u64) -> Vec<Record> {
         whites.map(|(wx, wy)| Input::GrayWhite(wx, wy)).collect(),
     ));
     all.extend(encoded_examples());
+    all.extend(intents_of_xyb());
     let encodings = encodings::encodings(random, 2600);
     let outputs = encodings.into_iter().enumerate();
     all.extend(plain(
@@ -43,6 +44,7 @@ pub fn all(seed: u64) -> Vec<Record> {
     ));
     all.extend(infinite_gammas());
     all.extend(ids(&mut random.apart()));
+    all.extend(files_of_xyb());
     all.extend(plain(files(random).into_iter().map(Input::File).collect()));
     all.extend(job_examples());
     all.extend(plain(jobs(random).into_iter().map(Input::Job).collect()));
@@ -76,6 +78,17 @@ fn encoded_examples() -> Vec<Record> {
         given: vec![(0, word(one.number))],
     };
     examples::run().into_iter().map(one).collect()
+}
+
+/// XYB of each intent into an output of just its length, and into one that is a byte short. By 02's
+/// order 8 all have 720 bytes, so the second answer is 9.
+fn intents_of_xyb() -> Vec<Record> {
+    let one = |intent, room, number| Record {
+        input: Input::Encoding(room, Encoding::xyb(intent)),
+        given: vec![(0, word(number))],
+    };
+    let both = |intent| [one(intent, 720, 720), one(intent, 719, 9)];
+    (0..4).flat_map(both).collect()
 }
 
 /// What is written for an infinite gamma; its number, the fifth field, is 0 by 01.
@@ -128,9 +141,48 @@ fn ids(random: &mut Random) -> [Record; 7] {
     })
 }
 
-/// The empty job, and the job of 01 with the listing that 01 prints.
+/// XYB of each intent: with its id, and with zeros in place of it, so with the mark; beside the text of
+/// each other intent, which is 26 under either id; and with intent 4 in its header, which is 24. Given
+/// by 02's order 8 are the refusal, kind, intent and mark.
+fn files_of_xyb() -> Vec<Record> {
+    let plan = |intent, id_not_computed| Plan {
+        kind: XYB,
+        intent,
+        id_not_computed,
+        ..Plan::default()
+    };
+    let accepted = |plan: Plan| {
+        let numbers = [0, XYB.into(), plan.intent, plan.id_not_computed.into()];
+        of_file(&Sheet::of(&plan), numbers)
+    };
+    // The elements of one intent under a header with another.
+    let refused = |intent: u32, header: u32, zeros, number| {
+        let mut sheet = Sheet::of(&plan(intent, zeros));
+        sheet.header[64..68].copy_from_slice(&header.to_be_bytes());
+        of_file(&sheet, [number, 0, 0, 0])
+    };
+    let mut all = Vec::new();
+    for intent in 0..4 {
+        all.extend([false, true].map(|zeros| accepted(plan(intent, zeros))));
+        let others = (0..4).filter(|header| *header != intent);
+        all.extend(others.map(|header| refused(intent, header, header > intent, 26)));
+        all.push(refused(intent, 4, intent % 2 == 1, 24));
+    }
+    all
+}
+
+/// The record of a file with its refusal, kind, intent and mark: fields 0, 1, 2 and 29.
+fn of_file(sheet: &Sheet, numbers: [u32; 4]) -> Record {
+    let given = [0, 1, 2, 29].into_iter().zip(numbers.map(word));
+    Record {
+        input: Input::File(sheet.bytes()),
+        given: given.collect(),
+    }
+}
+
+/// The empty job, and the job of 01 with the listing that 01 prints, its last line by 02's order 8.
 fn job_examples() -> Vec<Record> {
-    let listing = "profiles 2\n2 1 504\n3 1 refused 2\n";
+    let listing = "profiles 2\n2 1 504\n3 1 720\n";
     vec![
         Record {
             input: Input::Job(Vec::new()),

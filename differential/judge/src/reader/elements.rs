@@ -104,7 +104,7 @@ pub fn read(file: &[u8], kind: u8, table: &Table) -> Option<Plan> {
     let mut rest = Rest(&file[132 + 12 * word(file, 128) as usize..]);
     match kind {
         GRAY => gray(&mut rest, table),
-        XYB => xyb(rest.0),
+        XYB => xyb(rest.0, word(file, 64)),
         _ => rgb(&mut rest, table),
     }
 }
@@ -149,11 +149,13 @@ fn rgb(rest: &mut Rest, table: &Table) -> Option<Plan> {
     })
 }
 
-/// The one plan of XYB: what the original writes after the table of six tags.
-fn xyb(elements: &[u8]) -> Option<Plan> {
-    static WRITTEN: LazyLock<Vec<u8>> =
-        LazyLock::new(|| answer::profile(&Encoding::xyb(0)).expect("XYB is accepted"));
-    let same = *elements == WRITTEN[132 + 12 * 6..];
+/// The one XYB plan of the header's intent, which is below 4: what is written after the table of six
+/// tags. The text is that of the intent.
+fn xyb(elements: &[u8], intent: u32) -> Option<Plan> {
+    static WRITTEN: LazyLock<[Vec<u8>; 4]> = LazyLock::new(|| {
+        [0, 1, 2, 3].map(|intent| answer::profile(&Encoding::xyb(intent)).expect("accepted"))
+    });
+    let same = *elements == WRITTEN[intent as usize][132 + 12 * 6..];
     same.then_some(Plan {
         kind: XYB,
         ..Plan::default()

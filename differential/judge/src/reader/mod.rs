@@ -2,8 +2,8 @@
 //! of 21 to 28.
 //!
 //! It goes another way than the port's: it tries the tag tables of all plans of the file's class
-//! and space, and looks at each element field by field. Of XYB, which is one plan, the bytes are
-//! those that the original writes.
+//! and space, and looks at each element field by field. Of XYB, which has a plan for each intent, the
+//! bytes are those that the original writes, or what 02's order 8 makes of them.
 
 mod elements;
 mod header;
@@ -17,8 +17,8 @@ use tables::Table;
 pub const LARGEST: i32 = 2_147_483_264;
 
 /// A plan. Kinds and curves are numbered as in the job, `cicp` is its primaries value; what a plan
-/// lacks is zero. XYB has maker, model and the mark and no other free part, so all but these and its
-/// kind is zero.
+/// lacks is zero. XYB has intent, maker, model and the mark and no other free part, so all but these
+/// and its kind is zero.
 #[derive(Clone, Debug, Default, PartialEq, Eq)]
 pub struct Plan {
     pub kind: u8,
@@ -54,7 +54,7 @@ pub fn read(file: &[u8]) -> Result<Plan, u32> {
     }
     let kind = header::kind(file).ok_or(23u32)?;
     let intent = word(file, 64);
-    if intent > 3 || (kind == XYB && intent != 0) {
+    if intent > 3 {
         return Err(24);
     }
     let table = tables::of_kind(kind).iter().find(|table| table.is_of(file));

@@ -77,6 +77,7 @@ fn rgb(letters: usize, gamma: bool, cicp: bool) -> Table {
     Table::new(letters, gamma, cicp, &tags)
 }
 
+/// The texts of the four intents are of one length, so there is one table.
 fn xyb() -> Table {
     let letters = answer::description(&Encoding::xyb(0)).len();
     let mut tags = first(letters);
