@@ -1,13 +1,15 @@
 #!/usr/bin/env python3
-"""Checks SUPPLIER.md: its constants, the right numbers of its tables, those of XYB, and which constants are rounded.
+"""Checks SUPPLIER.md: its constants, the right numbers of its tables, those of XYB, which constants are rounded, and the ids.
 
   docs/check_supplier.py [SRC]
 
 Each constant is worked out exactly from the decimal that the Rust has and rounded to its width, and held against the bits in the table; the bits
 must stand in the file of the definition. With SRC, the folder of the Rust's sources, each decimal must stand there too. The cases must be those of
-conformance/encodings.txt. Each right number of a case must be in the case's profile there, and the numbers of XYB in its profile. The status is 1 if something differs.
+conformance/encodings.txt. Each right number of a case must be in the case's profile there, and the numbers of XYB in its profile. Each id
+of a profile must be the one in that profile there, and its MD5, and the other that of the profile with maker and model put in. The status is 1 if something differs.
 """
 
+import hashlib
 import pathlib
 import re
 import sys
@@ -228,9 +230,66 @@ def check_counts():
     print(f"{sum(most for most, _ in sums.values())} numbers that may be rounded")
 
 
+def id_of(profile):
+    """The id: the MD5 with flags, intent and the id itself blank."""
+    blank = bytearray(profile)
+    for start, end in ((44, 48), (64, 68), (84, 100)):
+        blank[start:end] = bytes(end - start)
+    return hashlib.md5(blank).hexdigest()
+
+
+INTENTS = ("Perceptual", "Relative", "Saturation", "Absolute")
+
+
+def fields_of(encoding):
+    """The named encoding of a table of ids as the fields of the list."""
+    kind, *names = encoding.split(", ")
+    number = lambda known: str(known.index(names.pop(0)))
+    fields = [str(("gray", "RGB", "XYB").index(kind) + 1)]
+    fields += [number(("D65", "E", "DCI")) if kind != "XYB" else "0"] + 2 * ["00000000"]
+    fields += [number(("SRGB", "BT2100", "P3")) if kind == "RGB" else "0"] + 6 * ["00000000"]
+    fields += [number(("BT709", "Linear", "SRGB", "PQ", "DCI")) if kind != "XYB" else "0", "00000000"]
+    return " ".join(fields + [number(INTENTS)])
+
+
+def with_intent(perceptual, intent):
+    """XYB of another intent: byte 67, the three letters of its name in UTF-16, and the id."""
+    letters = INTENTS[intent][:3].encode("utf-16-be")
+    changed = perceptual[:67] + bytes([intent]) + perceptual[68:240] + letters + perceptual[246:]
+    return changed[:84] + bytes.fromhex(id_of(changed)) + changed[100:]
+
+
+def profile_of(encoding, length, lines):
+    """The profile of an encoding in the list, or None. XYB of other intents is made from the Perceptual one, and its MD5 must be there."""
+    if encoding.startswith("XYB, ") and not encoding.endswith("Perceptual"):
+        perceptual = profile_of("XYB, Perceptual", length, lines)
+        profile = with_intent(perceptual, INTENTS.index(encoding.removeprefix("XYB, ")))
+        known = f"= {length} md5 {hashlib.md5(profile).hexdigest()}"
+        return profile if any(line.endswith(known) for line in lines) else None
+    asked = f"1200 {fields_of(encoding)} = {length} bytes "
+    return next((bytes.fromhex(line[len(asked):]) for line in lines if line.startswith(asked)), None)
+
+
+def check_ids():
+    """Holds the ids of profiles, with zeros for maker and model and with ACME and PLT1, against the profiles of the list."""
+    lines = (TOP / "conformance" / "encodings.txt").read_text().split("\n")
+    count = 0
+    for encoding, length, zeros, device in rows(["encoding", "bytes", "id with zeros", "id with ACME and PLT1"]):
+        count += 1
+        profile = profile_of(encoding, length, lines)
+        if profile is None:
+            yield f"{encoding} is not in the list with {length} bytes"
+            continue
+        marked = profile[:48] + b"ACMEPLT1" + profile[56:]
+        if [profile[84:100].hex(), id_of(profile), id_of(marked)] != [zeros, zeros, device]:
+            yield f"{encoding}: the ids are {id_of(profile)} and {id_of(marked)}"
+    print(f"{count} profiles with two ids")
+
+
 def main():
     source = pathlib.Path(sys.argv[1]) if len(sys.argv) > 1 else None
     wrong = list(check_constants(source)) + list(check_encodings()) + list(check_cases()) + list(check_xyb()) + list(check_counts())
+    wrong += list(check_ids())
     for line in wrong:
         print(line)
     return 1 if wrong else 0
