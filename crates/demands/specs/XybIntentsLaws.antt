@@ -10,7 +10,6 @@ use lib.Seq.{take-at}
 use Rattle.words.specs.Words.{be32}
 use Rattle.words.specs.WordsLaws.{length-be32}
 use Rattle.buffer.specs.Ascii.{ascii}
-use Rattle.buffer.specs.Buffer.{put}
 use Rattle.buffer.specs.BufferLaws.{put-over}
 use Rattle.buffer.specs.Bytes.{zeros}
 use Rattle.buffer.specs.Checked.{is, refused as refusedBy}
@@ -33,7 +32,7 @@ use Rattle.profile.specs.TagTypesLaws.{length-utf16}
 use Rattle.profile.specs.Shape.{slotsOf, xybShape}
 use Rattle.profile.specs.Xyb.{a2b0, b2a0}
 use Rattle.profile.specs.Layout.{Varying, tag, D50, xybText, elementsFor, elements, slots, header, varying, withId, profileId, computedId, layout}
-use Rattle.profile.specs.LayoutLaws.{length-header, length-computed, length-layout, header-put-byte-67, plan-fours, put-id, any-id, layout-computed}
+use Rattle.profile.specs.LayoutLaws.{length-header, length-computed, length-layout, header-put-byte-67, plan-fours, put-new-id, layout-computed}
 use Rattle.profile.specs.declared.Kind.the-variants.{Xyb}
 use Rattle.encoding_plan.specs.PlanOf.{planOf}
 use Rattle.encoding_plan.specs.EncodingPlan.{encodingWith, encodingPlan}
@@ -180,15 +179,11 @@ module _ (maker model : ℕ) where
   pub patched : (i : RenderingIntent) → layout (plan i) ≡ patchedXyb i (layout (plan Perceptual))
   patched i =
       let p = plan Perceptual in
-      let q = plan i in
       let d = computedId p in
-      let here : withLetters i (withByte67 i (layout p)) ≡ withId d q =
-      ap (λ f. withLetters i (withByte67 i f)) (layout-computed p)
+      sym (put-new-id (plan i) d (length-computed p)
+      (ap (λ f. withLetters i (withByte67 i f)) (layout-computed p)
       ∙ ap (withLetters i) (byte-67 d (length-computed p) i Perceptual)
-      ∙ letters d (length-computed p) i Perceptual
-      in
-      let id : profileId (withLetters i (withByte67 i (layout p))) ≡ computedId q = ap profileId here ∙ any-id q d (length-computed p) in
-      sym (ap₂ (λ (f e : List ℕ). put f 84 e) here id ∙ put-id q d (computedId q) (length-computed p) (length-computed q) ∙ sym (layout-computed q))
+      ∙ letters d (length-computed p) i Perceptual))
 
   module _ (i : RenderingIntent) {n k : ℕ} (before after : List ℕ) (w : Creates (encodingWith maker model (XYB i)) before after (Written n k)) where
     laid-out : take n after ≡ layout (plan i)

@@ -216,6 +216,12 @@ pub layout-marked : (p : Plan) → Layout.layout (withMark true p) ≡ Layout.wi
 unfolding Layout.layout Layout.idFor Layout.withId Layout.elements
 layout-marked p = refl
 
+-- a file that is the plan's but for its id, with the id of that file put in
+pub put-new-id : (q : Plan) (d : List ℕ) {f : List ℕ} → length d ≡ 16 → f ≡ Layout.withId d q → put f 84 (Layout.profileId f) ≡ Layout.layout (withMark false q)
+put-new-id q d {f} h here =
+    let same : Layout.profileId f ≡ Layout.computedId q = ap Layout.profileId here ∙ any-id q d h in
+    ap₂ (λ (x y : List ℕ). put x 84 y) here same ∙ put-id q d (Layout.computedId q) h (length-computed q) ∙ sym (layout-computed q)
+
 -- the intent and the id go in last, into the blank file
 pub layout-last : (p : Plan) → let f = Layout.blanked (Layout.withId (zeros 16) p) in put (put f 64 (be32 (p .intent))) 84 (md5 f) ≡ Layout.layout (withMark false p)
 unfolding Layout.computedId Layout.profileId Layout.withId file
@@ -240,14 +246,6 @@ pub layout-device : (p : Plan) (a b : ℕ) → let f = put (Layout.layout (withM
     Layout.layout (withMark false (withDevice a b p)) ≡ put f 84 (Layout.profileId f)
 unfolding Layout.computedId Layout.withId Layout.elements file
 layout-device p a b =
-    let k = kind p in
-    let n = fileLength (Layout.slots p) in
-    let q = withDevice a b p in
     let id = Layout.computedId p in
-    let new = Layout.computedId q in
-    let f = put (Layout.layout (withMark false p)) 48 (be32 a ++ be32 b) in
-    let here : f ≡ Layout.withId id q =
-    ap (λ (l : List ℕ). put l 48 (be32 a ++ be32 b)) (layout-computed p) ∙ header-put-device k (Layout.varying n id p) a b _
-    in
-    let same : Layout.profileId f ≡ new = ap Layout.profileId here ∙ any-id q id (length-computed p) in
-    sym (ap₂ (λ (x y : List ℕ). put x 84 y) here same ∙ put-id q id new (length-computed p) (length-computed q) ∙ sym (layout-computed q))
+    sym (put-new-id (withDevice a b p) id (length-computed p)
+    (ap (λ (l : List ℕ). put l 48 (be32 a ++ be32 b)) (layout-computed p) ∙ header-put-device (kind p) (Layout.varying (fileLength (Layout.slots p)) id p) a b _))

@@ -22,6 +22,10 @@ chad-requires c κs = search needs
 xyb-text-requires : tie.Need-xyb-text-requires
 xyb-text-requires c κs = search needs
 
+-- where the function starts, from where both arrays are made
+abbrev start : tie.After-xyb-text → tie.Start
+start c = c .before .before .before .before
+
 -- the letters of the text, with which the first elements have 100 bytes, and the numbers of `chad`
 lengths : (c : tie.After-xyb-text) → let n = length (c .xyb-text .result) in (n ≡ 7) × (bodySize (firstSlots n) ≡ 100) × (length (c .before .chad .result) ≡ 9)
 lengths c =
@@ -34,8 +38,7 @@ slice-aggregate-put-first-elements c = search needs
 put-first-elements-requires : tie.Need-put-first-elements-requires
 put-first-elements-requires c κs =
     let made = c .before .before in
-    let start = made .before .before .before .before in
-    omega (arith, start .pre, xyb-size, lengths made)
+    omega (arith, start made .pre, xyb-size, lengths made)
 
 slice-aggregate-create-icc-chad-tag : tie.Need-slice-aggregate-create-icc-chad-tag
 slice-aggregate-create-icc-chad-tag c = search needs
@@ -43,22 +46,19 @@ slice-aggregate-create-icc-chad-tag c = search needs
 create-icc-chad-tag-requires : tie.Need-create-icc-chad-tag-requires
 create-icc-chad-tag-requires c κs =
     let made = c .before .before .before .before .before .before .before in
-    let start = made .before .before .before .before in
-    omega (arith, start .pre, xyb-size, lengths made)
+    omega (arith, start made .pre, xyb-size, lengths made)
 
 create-icc-lut-atob-tag-for-xyb-requires : tie.Need-create-icc-lut-atob-tag-for-xyb-requires
 create-icc-lut-atob-tag-for-xyb-requires c κs =
     let made = c .before .before .before .before .before .before .before .before .before .before .before in
-    let start = made .before .before .before .before in
-    omega (arith, start .pre, xyb-size, lengths made)
+    omega (arith, start made .pre, xyb-size, lengths made)
 
 create-icc-noop-btoa-tag-requires : tie.Need-create-icc-noop-btoa-tag-requires
 create-icc-noop-btoa-tag-requires c κs =
     let second = c .before .before .before .before .before .before .before in
     let first = second .before .before .before .before .before in
     let made = first .before .before .before in
-    let start = made .before .before .before .before in
-    omega (arith, start .pre, xyb-size, lengths made, first .put-first-elements .ensures .place, second .create-icc-chad-tag .ensures .place)
+    omega (arith, start made .pre, xyb-size, lengths made, first .put-first-elements .ensures .place, second .create-icc-chad-tag .ensures .place)
 
 same-length : tie.Need-same-length
 same-length c = search needs
@@ -70,13 +70,12 @@ returns c =
     let s2 = s3 .before .before .before .before in
     let s1 = s2 .before .before .before .before .before in
     let made = s1 .before .before .before in
-    let start = made .before .before .before .before in
     run _ _
     (next (s1 .put-first-elements .ensures)
     (next (s2 .create-icc-chad-tag .ensures)
     (next (s3 .create-icc-lut-atob-tag-for-xyb .ensures)
     (next (s4 .create-icc-noop-btoa-tag .ensures)
-    done)))) (omega (arith, start .pre)) (xyb-parts (start .args .plan .intent) _ _ (made .xyb-text .ensures) (made .before .chad .ensures)) (length-elements (start .args .plan .intent) (contentBy Xyb (start .args .plan) (start .args .text .now)) tt)
+    done)))) (omega (arith, start made .pre)) (xyb-parts (start made .args .plan .intent) _ _ (made .xyb-text .ensures) (made .before .chad .ensures)) (length-elements (start made .args .plan .intent) (contentBy Xyb (start made .args .plan) (start made .args .text .now)) tt)
 
 pub put-xyb-elements-spec : {M : Type 1} → statement M
 put-xyb-elements-spec =
