@@ -20,10 +20,14 @@ use Rattle.reader_spec.specs.ShapeLaws.{region-if, table-if}
 
 count : (k : Kind) (s : Shape) → tagCount (slotsFor k s) ≤ 11
 unfolding tagCount
-count Gray s = omega arith
+count Gray s = gray (s .adapted) s
+  where
+    gray : (a : Bool) (s : Shape) → tagCount (slotsFor Gray (record { kind = Gray; letters = s .letters; gamma = s .gamma; cicp = s .cicp; adapted = a })) ≤ 11
+    gray true s = unfold tagCount in omega arith
+    gray false s = unfold tagCount in omega arith
 count Rgb s = rgb (s .cicp) s
   where
-    rgb : (v : Bool) (s : Shape) → tagCount (slotsFor Rgb (record { kind = Rgb; letters = s .letters; gamma = s .gamma; cicp = v })) ≤ 11
+    rgb : (v : Bool) (s : Shape) → tagCount (slotsFor Rgb (record { kind = Rgb; letters = s .letters; gamma = s .gamma; cicp = v; adapted = s .adapted })) ≤ 11
     rgb true s = unfold tagCount in omega arith
     rgb false s = unfold tagCount in omega arith
 count Xyb s = omega arith

@@ -1,10 +1,10 @@
--- Demand 2 of the writer: with a curve other than PQ and HLG, writing succeeds exactly if `validate_icc_matrix` does, a gamma's reciprocal fits and the
+-- Demand 2 of the writer, for the encodings that the Rust has, with any maker and model: with a curve other than PQ and HLG, writing succeeds exactly if `validate_icc_matrix` does, a gamma's reciprocal fits and the
 -- output is not shorter than the profile; 1,200 bytes are enough. So writing XYB always succeeds with enough output, 720 bytes (02, order 8). And where
--- `validate_icc_matrix` refuses, the writer refuses by a number that its answer stands for. Assumes nothing.
+-- `validate_icc_matrix` refuses, the writer refuses by a number that its answer stands for. (Gray with the mark "adapted" is in AdaptedGray.) Assumes nothing.
 use Prim.Native.Nat.{ℕ, _≤_}
 use mathlib.Core.Path.{_≡_, refl, sym, ap, _∙_}
 use mathlib.Core.Logic.{_↔_}
-use mathlib.Core.Bool.{true, cond}
+use mathlib.Core.Bool.{Bool, true, false, cond}
 use native.Mathlib.Nat.{le-trans}
 use lib.Dec.{leb}
 use lib.ListN.{length}
@@ -16,7 +16,7 @@ use Rattle.color_encoding.specs.declared.JxlColorEncoding.{JxlColorEncoding}
 use Rattle.color_encoding.specs.declared.JxlColorEncoding.the-variants.{RgbColorSpace, GrayscaleColorSpace, XYB}
 use Rattle.text.specs.Held.{HeldEncoding}
 use Rattle.profile.specs.Layout.{layout}
-use Rattle.encoding_plan.specs.PlanOf.{xybPlan, planOf}
+use Rattle.encoding_plan.specs.PlanOf.{xybPlan, colorPlan, planOf}
 use Rattle.encoding_plan.specs.FixedFloats.{fixedFloats, countedPlan}
 use Rattle.encoding_plan.specs.EncodingPlan.{encodingWith, countedEncodingPlan}
 use Rattle.encoding_plan.specs.declared.Encoding.{Encoding}
@@ -51,10 +51,14 @@ pub record RefusesAsNamed (e : Encoding) (n : ℕ) : Type 0 where
 
 -- ---- the theorems
 
-pub succeeds-exactly-if : (e : Encoding) → Ok1 (e .color) → (n : ℕ) → Succeeds e n ↔ (Acceptable (e .color) × Ok9 (e .color) n)
-succeeds-exactly-if e h n = (λ s. (acceptable (e .color) (has-plan (e .color) n (answers s)), has-room (e .color) n (answers s)), λ a. succeeds (plan (e .color) h (a .0)) (a .1))
+pub succeeds-exactly-if : (c : JxlColorEncoding) (maker model : ℕ) → Ok1 c → (n : ℕ) → Succeeds (encodingWith maker model c) n ↔ (Acceptable c × Ok9 false c n)
+succeeds-exactly-if c maker model h n =
+    (λ s. (acceptable c (has-plan false c n (answers s)), has-room false c n (answers s)), λ a. succeeds (plan c h (a .0)) (a .1))
   where
-    answers : (s : Succeeds e n) → answer (countedPlan (e .color)) n ≡ Written (s .size) (s .rounded)
+    e : Encoding
+    e = encodingWith maker model c
+
+    answers : (s : Succeeds e n) → answer (countedPlan c) n ≡ Written (s .size) (s .rounded)
     answers s = sym (any-device e n) ∙ s .answers
 
     acceptable : (e : JxlColorEncoding) → Passes (planOf e) → Acceptable e
@@ -67,31 +71,31 @@ succeeds-exactly-if e h n = (λ s. (acceptable (e .color) (has-plan (e .color) n
     plan (RgbColorSpace w q t i) h a = rgb-plan-if w q t i h (a .gamma) (valid-if _ (a .matrix))
     plan (XYB i) h a = record { value = xybPlan i; given = xyb-planned i }
 
-    succeeds : Passes (planOf (e .color)) → Ok9 (e .color) n → Succeeds e n
+    succeeds : Passes (planOf c) → Ok9 false c n → Succeeds e n
     succeeds p room =
-        record { size = length (layout (p .value)); rounded = roundedIn (fixedFloats (e .color)); answers = any-device e n ∙ written (e .color) n (p .given) (room (p .value) (p .given)) }
+        record { size = length (layout (p .value)); rounded = roundedIn (fixedFloats c); answers = any-device e n ∙ written false c n (p .given) (room (p .value) (p .given)) }
 
 -- whatever the intent, the maker and the model
 pub xyb-answer : (i : RenderingIntent) (maker model n : ℕ) → answer (countedEncodingPlan (encodingWith maker model (XYB i))) n ≡ cond (leb 720 n) (Written 720 30) (Refused tooShort)
 xyb-answer i maker model n = any-device (encodingWith maker model (XYB i)) n ∙ xyb-answered i n
 
 -- the floats of the encoding are binary32 values, as those of the code are
-pub enough-output : (e : JxlColorEncoding) → HeldEncoding e → (n : ℕ) → maxWritten ≤ n → Ok9 e n
-enough-output e held n enough p h = le-trans (written-length e held h .1) enough
+pub enough-output : (a : Bool) (e : JxlColorEncoding) → HeldEncoding e → (n : ℕ) → maxWritten ≤ n → Ok9 a e n
+enough-output a e held n enough p h = le-trans (written-length a e held h .1) enough
 
-pub refuses-as-named : (e : Encoding) → Ok1 (e .color) → (validateIccMatrix (e .color) ≡ Valid → ⊥) → (n : ℕ) → RefusesAsNamed e n
-refuses-as-named e h invalid n = go (inRange (e .color)) refl
+pub refuses-as-named : (c : JxlColorEncoding) (maker model : ℕ) → Ok1 c → (validateIccMatrix c ≡ Valid → ⊥) → (n : ℕ) → RefusesAsNamed (encodingWith maker model c) n
+refuses-as-named c maker model h invalid n = go (inRange c) refl
   where
     refuses : (e : JxlColorEncoding) → Ok1 e → {k : ℕ} → inRange e ≡ refused k → planOf e ≡ refused k
     refuses (GrayscaleColorSpace w t i) h r = gray-refused w t i h r
     refuses (RgbColorSpace w q t i) h r = rgb-refused w q t i h r
     refuses (XYB i) h r = xyb-refused i r
 
-    go : (c : Checked (Unit {0})) → inRange (e .color) ≡ c → RefusesAsNamed e n
+    go : (v : Checked (Unit {0})) → inRange c ≡ v → RefusesAsNamed (encodingWith maker model c) n
     go (is u) r = absurd (invalid (ap validation r))
     go (refused k) r =
         record {
           number = k;
-          answers = any-device e n ∙ ap (λ p. answer (counted (fixedFloats (e .color)) p) n) (refuses (e .color) h r);
-          named = ap (λ c. standsFor (validation c) k) r ∙ named (e .color) r;
+          answers = any-device (encodingWith maker model c) n ∙ ap (λ p. answer (counted (fixedFloats c) p) n) (refuses c h r);
+          named = ap (λ v. standsFor (validation v) k) r ∙ named c r;
         }

@@ -34,15 +34,15 @@ use Rattle.white_point.specs.GrayWhiteLaws.{gray-white}
 use Rattle.adaptation.specs.Adapt.{chadMatrix}
 use Rattle.colorimetry.specs.Primaries.{createIccRgbMatrix}
 use Rattle.colorimetry.specs.RefusalLaws.{by-white, by-chad, by-rgb-matrix}
-use Rattle.profile.specs.Plan.{Plan}
+use Rattle.profile.specs.Plan.{Plan, unadapted}
 use Rattle.profile.specs.Elements.{fileLength, start, bodySize, tagCount, padding}
 use Rattle.profile.specs.Shape.{slotsOf}
 use Rattle.profile.specs.Layout.{layout}
 use Rattle.profile.specs.LayoutLaws.{length-layout}
 use Rattle.profile.specs.declared.Curve.{Curve}
 use Rattle.encoding_plan.specs.Answers.{reciprocalRefusal}
-use Rattle.encoding_plan.specs.PlanOf.{supported, curveOf, grayNumbers, chadNumbers, columnNumbers, xybPlan, planOf}
-use Rattle.encoding_plan.specs.FixedFloats.{fixedFloats, countedPlan}
+use Rattle.encoding_plan.specs.PlanOf.{supported, curveOf, grayNumbers, grayWhite, chadNumbers, columnNumbers, xybPlan, colorPlan, planOf}
+use Rattle.encoding_plan.specs.FixedFloats.{colorFloats, countedColorPlan, countedPlan}
 use Rattle.encoding_plan.specs.FixedFloatsLaws.{xyb-count}
 use Rattle.encoding_plan.specs.PlanOfLaws.{gray-plan, rgb-plan}
 use Rattle.encoding_curve.specs.declared.SupportedCurve.{SupportedCurve}
@@ -69,9 +69,9 @@ passed-after : {A B : Type 0} (c : Checked A) (d : Checked B) → passed (then c
 passed-after (is a) d = refl
 passed-after (refused n) d = refl
 
-passed-cons : {A : Type 0} (a : A) (c : Checked (List A)) → passed (then c (λ xs. is (a ∷ xs))) ≡ passed c
-passed-cons a (is xs) = refl
-passed-cons a (refused n) = refl
+passed-value : {A B : Type 0} (f : A → B) (c : Checked A) → passed (then c (λ a. is (f a))) ≡ passed c
+passed-value f (is a) = refl
+passed-value f (refused n) = refl
 
 refused-as : {A B : Type 0} (c : Checked A) {n : ℕ} → passed c ≡ refused n → (f : A → Checked B) → then c f ≡ refused n
 refused-as (is a) e f = absurd (never (sym e))
@@ -91,7 +91,7 @@ each-tested n (x ∷ xs) = go (s15Fixed16 x) refl (each-tested n xs)
     go : (s : S15Fixed16) → s15Fixed16 x ≡ s → passed (each (fixedOr n) xs) ≡ inRangeOr n xs → passed (each (fixedOr n) (x ∷ xs)) ≡ inRangeOr n (x ∷ xs)
     go (Number z w) h rest =
         let t : isS15Fixed16 x ≡ true = fixed-range x ∙ ap isNumber h in
-        simp (h, t) (passed-cons z (each (fixedOr n) xs) ∙ rest)
+        simp (h, t) (passed-value (λ zs. z ∷ zs) (each (fixedOr n) xs) ∙ rest)
     go OutOfRange h rest = let t : isS15Fixed16 x ≡ false = fixed-range x ∙ ap isNumber h in simp (h, t)
 
 abbrev Tested : Float → Type 0
@@ -141,8 +141,8 @@ one-tested : isS15Fixed16 one ≡ true
 unfolding le lt eq ofBits
 one-tested = refl
 
-gray-tested : (w : WhiteXy) → passed (grayNumbers w) ≡ whiteInRange w
-gray-tested w = go (cieXyzFromWhiteCieXy w) refl
+gray-tested : (w : WhiteXy) → passed (grayWhite false w) ≡ whiteInRange w
+gray-tested w = passed-value (λ xz. unadapted (xz .0) (xz .1)) (grayNumbers w) ∙ go (cieXyzFromWhiteCieXy w) refl
   where
     two : (x z : Float) (s t : S15Fixed16) → s15Fixed16 x ≡ s → s15Fixed16 z ≡ t
         → passed {A = ℤ × ℤ} (then (fixedOr 7 x) (λ a. then (fixedOr 7 z) (λ b. is (a, b)))) ≡ inRangeOr 7 (x ∷ one ∷ z ∷ [])
@@ -226,7 +226,7 @@ module _ (w : JxlWhitePoint) (t : JxlTransferFunction) (i : RenderingIntent) whe
   pub gray-planned : {p : Plan} → planOf (GrayscaleColorSpace w t i) ≡ is p → (inRange (GrayscaleColorSpace w t i) ≡ is tt) × ReciprocalFits t
   unfolding inRange
   gray-planned e =
-      let g = gray-parts w t i e in
+      let g = gray-parts false w t i e in
       (sym (gray-tested (whiteXy w)) ∙ ap passed (g .white-is), reciprocal-if t (g .support-is) (g .curve-is))
 
   module _ (h : NeitherPqNorHlg t) where
@@ -234,19 +234,19 @@ module _ (w : JxlWhitePoint) (t : JxlTransferFunction) (i : RenderingIntent) whe
     unfolding inRange
     gray-plan-if f e =
         let s = supported-if t h in
-        let n = both (grayNumbers (whiteXy w)) (λ _. is tt) (gray-tested (whiteXy w) ∙ e) in
+        let n = both (grayWhite false (whiteXy w)) (λ _. is tt) (gray-tested (whiteXy w) ∙ e) in
         let c = curve-if t (s .given) f in
-        record { value = _; given = gray-plan w t i (s .given) (n .first) (c .given) }
+        record { value = _; given = gray-plan false w t i (s .given) (n .first) (c .given) }
 
     pub gray-refused : {n : ℕ} → inRange (GrayscaleColorSpace w t i) ≡ refused n → planOf (GrayscaleColorSpace w t i) ≡ refused n
-    unfolding planOf inRange
-    gray-refused e = rw (supported-if t h .given) (refused-as (grayNumbers (whiteXy w)) (gray-tested (whiteXy w) ∙ e) _)
+    unfolding colorPlan inRange
+    gray-refused e = rw (supported-if t h .given) (refused-as (grayWhite false (whiteXy w)) (gray-tested (whiteXy w) ∙ e) _)
 
 module _ (w : JxlWhitePoint) (q : JxlPrimaries) (t : JxlTransferFunction) (i : RenderingIntent) where
   pub rgb-planned : {p : Plan} → planOf (RgbColorSpace w q t i) ≡ is p → (inRange (RgbColorSpace w q t i) ≡ is tt) × ReciprocalFits t
   unfolding inRange
   rgb-planned e =
-      let g = rgb-parts w q t i e in
+      let g = rgb-parts false w q t i e in
       (sym (rgb-tested (primariesXy q) (whiteXy w)) ∙ rw (g .chad-is, g .columns-are), reciprocal-if t (g .support-is) (g .curve-is))
 
   module _ (h : NeitherPqNorHlg t) where
@@ -258,23 +258,23 @@ module _ (w : JxlWhitePoint) (q : JxlPrimaries) (t : JxlTransferFunction) (i : R
         let m = both (chadNumbers (whiteXy w)) (λ _. passed columns) (sym (passed-after (chadNumbers (whiteXy w)) columns) ∙ rgb-tested (primariesXy q) (whiteXy w) ∙ e) in
         let k = both columns (λ _. is tt) (m .second) in
         let c = curve-if t (s .given) f in
-        record { value = _; given = rgb-plan w q t i (s .given) (m .first) (k .first) (c .given) }
+        record { value = _; given = rgb-plan false w q t i (s .given) (m .first) (k .first) (c .given) }
 
     pub rgb-refused : {n : ℕ} → inRange (RgbColorSpace w q t i) ≡ refused n → planOf (RgbColorSpace w q t i) ≡ refused n
-    unfolding planOf inRange
+    unfolding colorPlan inRange
     rgb-refused e =
         rw (supported-if t h .given)
         (refused-after (chadNumbers (whiteXy w)) (columnNumbers (primariesXy q) (whiteXy w)) (rgb-tested (primariesXy q) (whiteXy w) ∙ e) _)
 
 module _ (i : RenderingIntent) where
   pub xyb-planned : planOf (XYB i) ≡ is (xybPlan i)
-  unfolding planOf
+  unfolding colorPlan
   xyb-planned = refl
 
   -- its file has 720 bytes, and 30 of its fixed numbers are rounded
   pub xyb-answered : (n : ℕ) → answer (countedPlan (XYB i)) n ≡ cond (leb 720 n) (Written 720 30) (Refused tooShort)
-  unfolding planOf slotsOf fileLength start bodySize tagCount padding
-  xyb-answered n = rw (length-layout (xybPlan i) tt, xyb-count i) refl
+  unfolding colorPlan slotsOf fileLength start bodySize tagCount padding
+  xyb-answered n = rw (length-layout (xybPlan i) tt, xyb-count false i) refl
 
   pub xyb-valid : validateIccMatrix (XYB i) ≡ Valid
   unfolding inRange
@@ -289,23 +289,23 @@ module _ (i : RenderingIntent) where
 pub written-not-refused : {k size m : ℕ} → Refused k ≡ Written size m → ⊥
 written-not-refused e = let z : _≡_ {A = ℕ} 0 1 = cc in omega arith
 
-module _ (e : JxlColorEncoding) (n : ℕ) where
-  known : {c : Checked Plan} → planOf e ≡ c → answer (countedPlan e) n ≡ answer (counted (fixedFloats e) c) n
-  known h = ap (λ (c : Checked Plan). answer (counted (fixedFloats e) c) n) h
+module _ (a : Bool) (e : JxlColorEncoding) (n : ℕ) where
+  known : {c : Checked Plan} → colorPlan a e ≡ c → answer (countedColorPlan a e) n ≡ answer (counted (colorFloats a e) c) n
+  known h = ap (λ (c : Checked Plan). answer (counted (colorFloats a e) c) n) h
 
-  pub written : {p : Plan} → planOf e ≡ is p → length (layout p) ≤ n → answer (countedPlan e) n ≡ Written (length (layout p)) (roundedIn (fixedFloats e))
+  pub written : {p : Plan} → colorPlan a e ≡ is p → length (layout p) ≤ n → answer (countedColorPlan a e) n ≡ Written (length (layout p)) (roundedIn (colorFloats a e))
   written {p} h room = known h ∙ simp (le-leb _ _ room)
 
-  pub has-plan : {size k : ℕ} → answer (countedPlan e) n ≡ Written size k → Passes (planOf e)
-  has-plan w = go (planOf e) refl
+  pub has-plan : {size k : ℕ} → answer (countedColorPlan a e) n ≡ Written size k → Passes (colorPlan a e)
+  has-plan w = go (colorPlan a e) refl
     where
-      go : (c : Checked Plan) → planOf e ≡ c → Passes (planOf e)
+      go : (c : Checked Plan) → colorPlan a e ≡ c → Passes (colorPlan a e)
       go (is p) h = record { value = p; given = h }
       go (refused k) h = absurd (written-not-refused (sym (known h) ∙ w))
 
-  pub has-room : {size k : ℕ} → answer (countedPlan e) n ≡ Written size k → (p : Plan) → planOf e ≡ is p → length (layout p) ≤ n
+  pub has-room : {size k : ℕ} → answer (countedColorPlan a e) n ≡ Written size k → (p : Plan) → colorPlan a e ≡ is p → length (layout p) ≤ n
   has-room {size} {k} w p h = go (leb (length (layout p)) n) refl (sym (known h) ∙ w)
     where
-      go : (b : Bool) → leb (length (layout p)) n ≡ b → cond b (Written (length (layout p)) (roundedIn (fixedFloats e))) (Refused tooShort) ≡ Written size k → length (layout p) ≤ n
+      go : (b : Bool) → leb (length (layout p)) n ≡ b → cond b (Written (length (layout p)) (roundedIn (colorFloats a e))) (Refused tooShort) ≡ Written size k → length (layout p) ≤ n
       go true t g = leb→le (length (layout p)) n (Bools.holds t)
       go false t g = absurd (written-not-refused g)

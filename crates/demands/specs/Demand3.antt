@@ -12,7 +12,7 @@ use Rattle.profile.specs.Plan.{Plan}
 use Rattle.profile.specs.PlanLaws.{unmarked}
 use Rattle.profile.specs.Shape.{minLength, maxLength}
 use Rattle.profile.specs.Layout.{layout}
-use Rattle.encoding_plan.specs.FixedFloats.{fixedFloats}
+use Rattle.encoding_plan.specs.FixedFloats.{colorFloats}
 use Rattle.encoding_plan.specs.EncodingPlan.{encodingPlan}
 use Rattle.encoding_plan.specs.EncodingPlanLaws.{from-color, never-marked}
 use Rattle.encoding_plan.specs.declared.Encoding.{Encoding}
@@ -95,7 +95,7 @@ pub record WroteItsPlan (e : Encoding) (n : ℕ) (after : List ℕ) : Type 0 whe
 -- `maybe_create_profile` ensures `Creates`
 pub written : (e : Encoding) (n : ℕ) {k : ℕ} (before after : List ℕ) → Creates e before after (Written n k) → WroteItsPlan e n after
 written e n before after w =
-    let p = front-of (fixedFloats (e .color)) (encodingPlan e) before after (w .writes .answer) (w .writes .output) in
+    let p = front-of (colorFloats (e .adapted) (e .color)) (encodingPlan e) before after (w .writes .answer) (w .writes .output) in
     let computed = never-marked e (p .1) in
     let exists : Exists (p .0) =
     subst Exists (unmarked (p .0) computed) (computed-exists (p .0) (encoding-plan-valid e (w .held) (w .maker) (w .model) (p .1))) in

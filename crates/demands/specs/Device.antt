@@ -3,7 +3,7 @@
 -- Assumes nothing.
 use Prim.Native.Nat.{ℕ}
 use mathlib.Core.Path.{_≡_, sym, _∙_}
-use mathlib.Core.Bool.{false}
+use mathlib.Core.Bool.{Bool, false}
 use mathlib.Core.List.{List}
 use lib.ListN.{length, take, getD}
 use Rattle.buffer.specs.Checked.{is}
@@ -11,8 +11,8 @@ use Rattle.color_encoding.specs.declared.JxlColorEncoding.{JxlColorEncoding}
 use Rattle.profile.specs.Plan.{Plan}
 use Rattle.profile.specs.Layout.{layout}
 use Rattle.profile.specs.LayoutLaws.{length-device}
-use Rattle.encoding_plan.specs.PlanOf.{planOf}
-use Rattle.encoding_plan.specs.EncodingPlan.{encodingWith, plainEncoding, encodingPlan, countedEncodingPlan}
+use Rattle.encoding_plan.specs.PlanOf.{colorPlan, planOf}
+use Rattle.encoding_plan.specs.EncodingPlan.{encodingAs, plainEncoding, encodingPlan, countedEncodingPlan}
 use Rattle.encoding_plan.specs.EncodingPlanLaws.{plain-fields, plain-plan, from-color}
 use Rattle.encoding_plan.specs.declared.Encoding.{Encoding}
 use Rattle.writer.specs.Writer.{answer, Creates}
@@ -36,7 +36,7 @@ plain-zeros c = plain-plan c
 
 pub record Differs (e : Encoding) (q : Plan) : Type 0 where
   pub plan : Plan
-  pub color-plan : planOf (e .color) ≡ is plan
+  pub color-plan : colorPlan (e .adapted) (e .color) ≡ is plan
   pub old : layout plan ≡ oldLayout plan
   pub new : layout q ≡ patched (e .maker) (e .model) (layout plan)
   pub same-length : length (layout q) ≡ length (layout plan)
@@ -46,7 +46,7 @@ pub differs : (e : Encoding) {q : Plan} → encodingPlan e ≡ is q → Differs 
 differs e h =
     let d = from-color e h in
     let p = d .plan in
-    let (maker, model, mark) = plain-fields (e .color) (d .color-plan) in
+    let (maker, model, mark) = plain-fields (e .adapted) (e .color) (d .color-plan) in
     rw (← d .device)
     (record {
       plan = p;
@@ -58,13 +58,13 @@ differs e h =
     })
 
 -- the length, the count of rounded numbers and the refusal, on an output of n bytes
-pub same-answer : (c : JxlColorEncoding) (a b maker model n : ℕ) → answer (countedEncodingPlan (encodingWith a b c)) n ≡ answer (countedEncodingPlan (encodingWith maker model c)) n
-same-answer c a b maker model n = any-device (encodingWith a b c) n ∙ sym (any-device (encodingWith maker model c) n)
+pub same-answer : (m : Bool) (c : JxlColorEncoding) (a b maker model n : ℕ) → answer (countedEncodingPlan (encodingAs m a b c)) n ≡ answer (countedEncodingPlan (encodingAs m maker model c)) n
+same-answer m c a b maker model n = any-device (encodingAs m a b c) n ∙ sym (any-device (encodingAs m maker model c) n)
 
 -- ---- running code: `maybe_create_profile` ensures `Creates`
 
 pub written-patched : (e : Encoding) (n : ℕ) {k : ℕ} (before after : List ℕ) → Creates e before after (Written n k)
-    → (p : Plan) × (planOf (e .color) ≡ is p) × (take n after ≡ patched (e .maker) (e .model) (layout p))
+    → (p : Plan) × (colorPlan (e .adapted) (e .color) ≡ is p) × (take n after ≡ patched (e .maker) (e .model) (layout p))
 written-patched e n before after w =
     let p = written e n before after w in
     let d = differs e (p .its-plan) in

@@ -19,3 +19,6 @@ pub mod NotComputed
 pub mod XybFiles
 pub mod XybIntentsLaws
 pub mod XybIntents
+pub mod AdaptedFiles
+pub mod AdaptedGrayLaws
+pub mod AdaptedGray

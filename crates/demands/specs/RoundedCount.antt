@@ -7,14 +7,12 @@ use native.Mathlib.Omega.{arith}
 use lib.ListN.{length}
 use Rattle.buffer.specs.Checked.{Checked, is}
 use Rattle.numbers.specs.Rounded.{roundedIn}
-use Rattle.color_encoding.specs.declared.JxlColorEncoding.{JxlColorEncoding}
 use Rattle.profile.specs.Plan.{Plan}
 use Rattle.encoding_plan.specs.EncodingPlan.{encodingPlan}
 use Rattle.encoding_plan.specs.EncodingPlanLaws.{from-color}
 use Rattle.encoding_plan.specs.declared.Encoding.{Encoding}
-use Rattle.encoding_plan.specs.FixedFloats.{fixedFloats}
-use Rattle.writer.specs.Writer.{number, profileBy, countAfter, Creates}
-use Rattle.writer.specs.WriterLaws.{any-device-coded}
+use Rattle.encoding_plan.specs.FixedFloats.{colorFloats}
+use Rattle.writer.specs.Writer.{profileBy, countAfter, Creates}
 use Rattle.writer.specs.declared.Profile.{Profile}
 use Rattle.writer.specs.declared.Profile.the-variants.{Written, Refused}
 use Rattle.writer_laws.specs.FileNumbers.{numberCount}
@@ -27,18 +25,18 @@ use Rattle.demands.specs.Demand3Laws.{count-of}
 pub record CountedIts (e : Encoding) (k : ℕ) : Type 0 where
   pub plan : Plan
   pub its-plan : encodingPlan e ≡ is plan
-  pub rounded : k ≡ roundedIn (fixedFloats (e .color))
+  pub rounded : k ≡ roundedIn (colorFloats (e .adapted) (e .color))
   pub most : k ≤ numberCount (plan .content)
 
 pub counted-its : (e : Encoding) {n k : ℕ} (before after : List ℕ) → Creates e before after (Written n k) → CountedIts e k
 counted-its e before after w =
-    let c = count-of (fixedFloats (e .color)) (encodingPlan e) (length before) (w .writes .answer) in
+    let c = count-of (colorFloats (e .adapted) (e .color)) (encodingPlan e) (length before) (w .writes .answer) in
     let d = from-color e (c .1) in
-    record { plan = c .0; its-plan = c .1; rounded = c .2; most = rw (← d .device) (omega (arith, c .2, most-rounded (e .color) (d .color-plan))) }
+    record { plan = c .0; its-plan = c .1; rounded = c .2; most = rw (← d .device) (omega (arith, c .2, most-rounded (e .adapted) (e .color) (d .color-plan))) }
 
 -- ---- from C: the calls that write and count ensure `WritesCounted`, the dry ones `MeasuresCounted`; the count was k at entry and is m at exit
 
-module _ (c : Checked JxlColorEncoding) where
+module _ (c : Checked Encoding) where
   -- the number and the count tell the whole answer
   pub written-told : (before after : List ℕ) {k m r : ℕ} → WritesCounted c before after k m r → profileBy r m ≡ codeAnswer c (length before)
   written-told before after {k} {m} {r} w = ap (profileBy r) (w .rounded) ∙ w .writes .told k
@@ -52,4 +50,4 @@ module _ (c : Checked JxlColorEncoding) where
 
   -- the dry call with the output's length counts as the writer does
   pub same-count : (before after : List ℕ) {k m l r s : ℕ} → WritesCounted c before after k m r → MeasuresCounted c (length before) k l s → (s ≡ r) × (l ≡ m)
-  same-count before after w d = (d .measures .answer ∙ sym (w .writes .writes .answer ∙ ap number (any-device-coded 0 0 c (length before))), d .rounded ∙ sym (w .rounded))
+  same-count before after w d = (d .measures .answer ∙ sym (w .writes .writes .answer), d .rounded ∙ sym (w .rounded))

@@ -39,6 +39,7 @@ numbersIn r =
       model = r .model;
       curve = curveBy (r .curve) (r .gamma);
       cicp = cicpBy (r .cicp);
+      adapted = eqb (r .adapted) 1;
       «white_x» = r .«white_x»;
       «white_z» = r .«white_z»;
       chad = r .chad;

@@ -53,12 +53,12 @@ pair-good i (gray g) h = tt
 pair-good i (rgb g) h = h .cicp
 pair-good i xyb h = tt
 
-numbers-back : (n : Numbers) (m k : ℕ) (t : List ℕ) → GoodCicp (n .curve) (n .cicp) → numbersIn (acceptedWith n m k t) ≡ n
-numbers-back n m k t h = rw (kind-back (n .kind), curve-back (n .curve), cicp-back (n .curve) (n .cicp) h) refl
-
 mark-back : (m : Bool) → eqb (cond m 1 0) 1 ≡ m
 mark-back true = refl
 mark-back false = refl
+
+numbers-back : (n : Numbers) (m k : ℕ) (t : List ℕ) → GoodCicp (n .curve) (n .cicp) → numbersIn (acceptedWith n m k t) ≡ n
+numbers-back n m k t h = rw (kind-back (n .kind), curve-back (n .curve), cicp-back (n .curve) (n .cicp) h, mark-back (n .adapted)) refl
 
 pub plan-told : (p : Plan) → Valid p → told (reading (accepted p)) ≡ is p
 plan-told p v =

@@ -13,7 +13,7 @@ use Rattle.description_parser.specs.Parse.{parse}
 use Rattle.description_laws.specs.Reads.{answers-encoding, answers-51, answers-52}
 use Rattle.description_laws.specs.HeldLaws.{typed-held}
 use Rattle.encoding_record.specs.EncodingRecord.{encodingSize, encodingBy}
-use Rattle.coded_writer.specs.CodedWriter.{WritesCode}
+use Rattle.coded_writer.specs.CodedWriter.{plain, WritesCode}
 use Rattle.host.specs.Host.{StoresEncoding}
 use Rattle.demands.specs.TypedTextLaws.{record-of, when-refused, when-short, when-stored, reason, why}
 use Rattle.demands.specs.TypedTextLaws.{told-0, told-51, told-52, told-9, told-unchanged, told-number}
@@ -33,10 +33,10 @@ module _ (text before after : List ℕ) (r : ℕ) where
   -- a call that writes, by the numbers of the record, promises what it promises for that encoding; maker and model are zero
   pub typed-is-written : (e : JxlColorEncoding) → StoresEncoding (parse text) before after r → Describes text e → zeroGamma e ≡ false
       → encodingSize ≤ length before
-      → (out out′ : List ℕ) (n : ℕ) → WritesCode 0 0 (encodingBy after) out out′ n ↔ WritesCode 0 0 (is e) out out′ n
+      → (out out′ : List ℕ) (n : ℕ) → WritesCode (plain (encodingBy after)) out out′ n ↔ WritesCode (plain (is e)) out out′ n
   typed-is-written e h d z room out out′ n =
       let told = typed-in-c e h d z room .1 in
-      let Promise : Checked JxlColorEncoding → Type 0 = λ c. WritesCode 0 0 c out out′ n in
+      let Promise : Checked JxlColorEncoding → Type 0 = λ c. WritesCode (plain c) out out′ n in
       (subst Promise told, subst Promise (sym told))
 
   module _ (h : StoresEncoding (parse text) before after r) where

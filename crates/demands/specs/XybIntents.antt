@@ -50,7 +50,7 @@ matching-text i = Laws.matching-text i
 -- ---- the writer
 
 pub never-2 : (e : Encoding) (n : ℕ) → ¬ (answer (countedEncodingPlan e) n ≡ Refused 2)
-never-2 e n h = RefusalNumbers.never-2 (e .color) n (sym (any-device e n) ∙ h)
+never-2 e n h = RefusalNumbers.never-2 (e .adapted) (e .color) n (sym (any-device e n) ∙ h)
 
 -- running code: `maybe_create_profile` ensures `Creates`
 pub written-patched : (maker model : ℕ) (i : RenderingIntent) {n k : ℕ} (before after : List ℕ)

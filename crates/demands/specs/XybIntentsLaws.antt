@@ -34,7 +34,7 @@ use Rattle.profile.specs.Xyb.{a2b0, b2a0}
 use Rattle.profile.specs.Layout.{Varying, tag, D50, xybText, elementsFor, elements, slots, header, varying, withId, profileId, computedId, layout}
 use Rattle.profile.specs.LayoutLaws.{length-header, length-computed, length-layout, header-put-byte-67, plan-fours, put-new-id, layout-computed}
 use Rattle.profile.specs.declared.Kind.the-variants.{Xyb}
-use Rattle.encoding_plan.specs.PlanOf.{planOf}
+use Rattle.encoding_plan.specs.PlanOf.{colorPlan}
 use Rattle.encoding_plan.specs.EncodingPlan.{encodingWith, encodingPlan}
 use Rattle.writer.specs.Writer.{Creates}
 use Rattle.writer.specs.declared.Profile.the-variants.{Written}
@@ -126,7 +126,7 @@ module _ (maker model : ℕ) where
   plan i = xybPlanWith maker model i
 
   pub its-plan : (i : RenderingIntent) → encodingPlan (encodingWith maker model (XYB i)) ≡ is (plan i)
-  unfolding planOf
+  unfolding colorPlan
   its-plan i = refl
 
   pub length-720 : (i : RenderingIntent) → length (layout (plan i)) ≡ 720

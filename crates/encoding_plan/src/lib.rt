@@ -1,26 +1,31 @@
-// The plan of an encoding, or its refusal: of its color encoding, maker and model being zero.
+// The plan of an encoding, or its refusal: of its color encoding, with or without the mark "adapted", maker and model being zero.
 use color_encoding::JxlColorEncoding;
 use color_encoding::JxlPrimaries;
 use color_encoding::JxlTransferFunction;
 use color_encoding::JxlWhitePoint;
 use color_encoding::RenderingIntent;
+use color_encoding::WhiteXy;
 use encoding_curve::CurveAnswer;
 use encoding_curve::Support;
 use profile::Numbers;
 ghost use mathlib.Core.Path.{_≡_};
+ghost use mathlib.Core.Bool.{Bool};
 ghost use Rattle.encoding_plan.specs.EncodingPlan.{plainEncoding};
-ghost use Rattle.encoding_plan.specs.FixedFloats.{countedPlan};
-ghost use Rattle.encoding_plan.specs.Answers.{checkedPlan};
+ghost use Rattle.encoding_plan.specs.PlanOf.{grayWhite};
+ghost use Rattle.encoding_plan.specs.FixedFloats.{whiteFloats, countedColorPlan};
+ghost use Rattle.encoding_plan.specs.Answers.{checkedWhite, checkedPlan};
+ghost use Rattle.numbers.specs.Rounded.{counted};
 
-// An encoding: the color encoding, and the device's manufacturer and model for the header of its profile, four bytes each, the first the most
-// significant.
+// An encoding: the color encoding, the device's manufacturer and model for the header of its profile, four bytes each, the first the most
+// significant, and the mark: whether the white of gray is adapted to D50. Of RGB and XYB, whose white always is, the mark says nothing.
 pub struct Encoding {
     pub color: JxlColorEncoding,
     pub maker: u32,
     pub model: u32,
+    pub adapted: bool,
 }
 
-// An encoding with maker and model zero, as job entries and typed texts mean it.
+// An encoding with maker and model zero and without the mark, as job entries and typed texts mean it.
 pub fn plain_encoding(color: JxlColorEncoding) -> Encoding
     ensures { λ r. ⌜ r ≡ plainEncoding color ⌝ }
 {
@@ -28,10 +33,12 @@ pub fn plain_encoding(color: JxlColorEncoding) -> Encoding
         color,
         maker: 0,
         model: 0,
+        adapted: false,
     }
 }
 
-// How many of the three numbers of the white of the PCS are rounded, which is `wtpt` of RGB and XYB, and how many of the other numbers of XYB.
+// How many of the three numbers of the white of the PCS are rounded, which is `wtpt` of RGB, XYB and adapted gray, and how many of the other numbers of
+// XYB.
 const D50_ROUNDED: u32 = 2;
 
 const XYB_ROUNDED: u32 = 28;
@@ -55,24 +62,66 @@ fn refused(number: u32) -> EncodingPlan
     }
 }
 
+// The white of a gray plan, X and Z or, adapted, `chad`, and how many of its fixed numbers were rounded; or its refusal, which is 0 where there is none.
+pub struct WhiteNumbers {
+    pub refusal: u32,
+    pub x: i32,
+    pub z: i32,
+    pub chad: [i32; 9],
+    pub rounded: u16,
+}
+
+fn white_numbers(white: WhiteXy, adapted: bool) -> WhiteNumbers
+    ensures { λ r. ⌜ checkedWhite adapted r ≡ counted (whiteFloats adapted white) (grayWhite adapted white) ⌝ }
+{
+    if adapted {
+        let chad = encoding_numbers::chad_numbers(white);
+        let values = chad.values;
+        return WhiteNumbers {
+            refusal: chad.refusal,
+            x: 0,
+            z: 0,
+            chad: values,
+            rounded: D50_ROUNDED as u16 + chad.rounded as u16,
+        };
+    }
+    let numbers = encoding_numbers::gray_numbers(white);
+    WhiteNumbers {
+        refusal: numbers.refusal,
+        x: numbers.x,
+        z: numbers.z,
+        chad: [0; 9],
+        rounded: numbers.rounded as u16,
+    }
+}
+
 fn gray_plan(
     white: JxlWhitePoint,
     transfer: JxlTransferFunction,
     intent: RenderingIntent,
+    adapted: bool,
 ) -> EncodingPlan
-    ensures { λ r. ⌜ checkedPlan r (JxlColorEncoding.GrayscaleColorSpace white transfer intent) ≡ countedPlan (JxlColorEncoding.GrayscaleColorSpace white transfer intent) ⌝ }
+    ensures { λ r. ⌜ checkedPlan r (JxlColorEncoding.GrayscaleColorSpace white transfer intent) ≡ countedColorPlan adapted (JxlColorEncoding.GrayscaleColorSpace white transfer intent) ⌝ }
 {
     match encoding_curve::supported(transfer) {
         Support::Unsupported => refused(1),
         Support::Curve(named_or_gamma) => {
-            let numbers = encoding_numbers::gray_numbers(white.to_xy_coords());
+            let numbers = white_numbers(white.to_xy_coords(), adapted);
             if numbers.refusal != 0 {
                 return refused(numbers.refusal);
             }
             match encoding_curve::curve_of(named_or_gamma) {
                 CurveAnswer::OutOfRange => refused(8),
                 CurveAnswer::Curve { curve, rounded } => {
-                    let plan = profile::gray_numbers(intent.number(), curve, numbers.x, numbers.z);
+                    let chad = numbers.chad;
+                    let plan = profile::gray_numbers(
+                        intent.number(),
+                        curve,
+                        adapted,
+                        numbers.x,
+                        numbers.z,
+                        chad,
+                    );
                     EncodingPlan {
                         refusal: 0,
                         plan,
@@ -90,7 +139,7 @@ fn rgb_plan(
     transfer: JxlTransferFunction,
     intent: RenderingIntent,
 ) -> EncodingPlan
-    ensures { λ r. ⌜ checkedPlan r (JxlColorEncoding.RgbColorSpace white primaries transfer intent) ≡ countedPlan (JxlColorEncoding.RgbColorSpace white primaries transfer intent) ⌝ }
+    ensures { λ r. ⌜ ((adapted : Bool) → checkedPlan r (JxlColorEncoding.RgbColorSpace white primaries transfer intent) ≡ countedColorPlan adapted (JxlColorEncoding.RgbColorSpace white primaries transfer intent)) ⌝ }
 {
     match encoding_curve::supported(transfer) {
         Support::Unsupported => refused(1),
@@ -133,7 +182,7 @@ fn rgb_plan(
 
 // XYB has a plan of each intent, and is never refused.
 fn xyb_plan(intent: RenderingIntent) -> EncodingPlan
-    ensures { λ r. ⌜ checkedPlan r (JxlColorEncoding.XYB intent) ≡ countedPlan (JxlColorEncoding.XYB intent) ⌝ }
+    ensures { λ r. ⌜ ((adapted : Bool) → checkedPlan r (JxlColorEncoding.XYB intent) ≡ countedColorPlan adapted (JxlColorEncoding.XYB intent)) ⌝ }
 {
     let number = intent.number();
     let plan = profile::xyb_numbers(number);
@@ -145,8 +194,8 @@ fn xyb_plan(intent: RenderingIntent) -> EncodingPlan
 }
 
 // Maker and model are zero.
-pub fn plan_of(encoding: JxlColorEncoding) -> EncodingPlan
-    ensures { λ r. ⌜ checkedPlan r encoding ≡ countedPlan encoding ⌝ }
+pub fn plan_of(encoding: JxlColorEncoding, adapted: bool) -> EncodingPlan
+    ensures { λ r. ⌜ checkedPlan r encoding ≡ countedColorPlan adapted encoding ⌝ }
 {
     match encoding {
         JxlColorEncoding::RgbColorSpace {
@@ -159,7 +208,7 @@ pub fn plan_of(encoding: JxlColorEncoding) -> EncodingPlan
             white_point,
             transfer_function,
             rendering_intent,
-        } => gray_plan(white_point, transfer_function, rendering_intent),
+        } => gray_plan(white_point, transfer_function, rendering_intent, adapted),
         JxlColorEncoding::XYB { rendering_intent } => xyb_plan(rendering_intent),
     }
 }

@@ -1,5 +1,6 @@
 -- Laws of lines, and of the writer's answer with enough output. Assumes nothing.
 use Prim.Native.Nat.{ℕ, _+_, _-_, _≤_}
+use mathlib.Core.Bool.{false}
 use mathlib.Core.Path.{_≡_, refl, sym, ap, _∙_}
 use mathlib.Core.List.{List, [], _∷_, _++_, append-assoc, append-nil}
 use native.Mathlib.Omega.{arith}
@@ -41,7 +42,7 @@ pub profile-most : (e : JxlColorEncoding) → HeldEncoding e → length (profile
 profile-most e h = go (planOf e) refl
   where
     go : (c : Checked Plan) → planOf e ≡ c → length (profileBytes c) ≤ maxWritten
-    go (is p) q = written-length e h q .1
+    go (is p) q = written-length false e h q .1
     go (refused k) q = omega arith
 
 -- an output with room for the profile
@@ -56,8 +57,8 @@ pub small-answer : (e : JxlColorEncoding) → HeldEncoding e → Small (enough (
 small-answer e h = go (planOf e) refl
   where
     go : (c : Checked Plan) → planOf e ≡ c → Small (enough (counted (fixedFloats e) c))
-    go (is p) q = omega (arith, written-length e h q .1)
-    go (refused k) q = omega (arith, refusal-number e q .1)
+    go (is p) q = omega (arith, written-length false e h q .1)
+    go (refused k) q = omega (arith, refusal-number false e q .1)
 
 pub written-is : (xs : List Float) (c : Checked Plan) {n k : ℕ} → enough (counted xs c) ≡ P.Written n k → n ≡ length (profileBytes c)
 written-is xs (is p) h = cc

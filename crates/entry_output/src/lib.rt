@@ -36,7 +36,7 @@ pub struct Line {
 fn measure(encoding: JxlColorEncoding) -> Profile
     ensures { λ r. ⌜ r ≡ enough (countedPlan encoding) ⌝ }
 {
-    writer::profile_length(encoding, MAX_WRITTEN)
+    writer::profile_length(encoding_plan::plain_encoding(encoding), MAX_WRITTEN)
 }
 
 fn put_answer(out: &mut [u8], at: usize, answer: Profile) -> usize

@@ -1,5 +1,6 @@
 -- The job of 44 bytes that 01 shows, evaluated on the definitions: its entries, and its listing. Assumes nothing.
 use Prim.Native.Nat.{ℕ}
+use mathlib.Core.Bool.{false}
 use mathlib.Core.Path.{_≡_, refl, ap, ap₂, _∙_}
 use mathlib.Core.List.{List, [], _∷_, _++_}
 use lib.Ieee.{size}
@@ -16,7 +17,7 @@ use Rattle.profile.specs.TagTypes.{join}
 use Rattle.profile.specs.Elements.{fileLength, start, bodySize, tagCount, padding}
 use Rattle.profile.specs.Shape.{slotsOf}
 use Rattle.profile.specs.LayoutLaws.{length-layout}
-use Rattle.encoding_plan.specs.PlanOf.{xybPlan, planOf}
+use Rattle.encoding_plan.specs.PlanOf.{xybPlan, colorPlan}
 use Rattle.encoding_plan.specs.FixedFloats.{fixedFloats, countedPlan}
 use Rattle.encoding_plan.specs.FixedFloatsLaws.{xyb-count}
 use Rattle.writer.specs.declared.Profile.the-variants.{Written}
@@ -45,8 +46,8 @@ first =
     ∙ ap₂ Written (length-layout (srgbPlan 0 (ascii "sRGB")) (refl, refl)) (srgb-count Perceptual)
 
 second : enough (countedPlan (XYB Relative)) ≡ Written 720 30
-unfolding planOf slotsOf fileLength start bodySize tagCount padding
-second = ap₂ Written (length-layout (xybPlan Relative) tt) (xyb-count Relative)
+unfolding colorPlan slotsOf fileLength start bodySize tagCount padding
+second = ap₂ Written (length-layout (xybPlan Relative) tt) (xyb-count false Relative)
 
 pub listing-44 : listing (job 1 job44) ≡ ascii "profiles 2" ++ (10 ∷ ascii "2 1 504") ++ (10 ∷ ascii "3 1 720") ++ (10 ∷ [])
 unfolding outputOf firstLine entryLine join digits digitsUpTo size

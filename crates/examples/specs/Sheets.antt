@@ -1,4 +1,5 @@
--- The sheets of 01 that are to be proved ("Sheets to try", marked with a star): one table of cases with what each must give, and one theorem over it.
+-- The sheets of 01 that are to be proved ("Sheets to try", marked with a star), and those that later orders of 02 name: one table of cases with what each must give,
+-- and one theorem over it.
 -- Assumes nothing.
 use Prim.Native.Nat.{ℕ}
 use Prim.Native.String.{String}
@@ -20,7 +21,7 @@ use Rattle.color_encoding.specs.declared.JxlTransferFunction.the-variants as F
 use Rattle.color_encoding.specs.declared.JxlColorEncoding.the-variants.{RgbColorSpace, GrayscaleColorSpace, XYB}
 use Rattle.decimal.specs.Seven.{sevenDecimals}
 use Rattle.text.specs.Description.{description}
-use Rattle.encoding_plan.specs.FixedFloats.{countedPlan}
+use Rattle.encoding_plan.specs.FixedFloats.{countedColorPlan, countedPlan}
 use Rattle.writer.specs.Writer.{answer}
 use Rattle.writer.specs.declared.Profile.the-variants.{Written}
 use Rattle.examples.specs.SheetsLaws as Laws
@@ -34,12 +35,15 @@ pub data Sheet : Type 0 where
   text : JxlColorEncoding → String → Sheet
   -- its profile has so many bytes, and an output of just as many is enough; so many of its fixed numbers are rounded
   bytes : JxlColorEncoding → ℕ → ℕ → Sheet
+  -- the same of gray with the mark "adapted" (02, order 9)
+  adaptedBytes : JxlColorEncoding → ℕ → ℕ → Sheet
 
 abbrev pub Holds : Sheet → Type 0
 Holds (fixed x n) = s15Fixed16 (ofBits binary32 x) ≡ n
 Holds (prints x s) = sevenDecimals (ofBits binary32 x) ≡ ascii s
 Holds (text e s) = description e ≡ ascii s
 Holds (bytes e n k) = answer (countedPlan e) n ≡ Written n k
+Holds (adaptedBytes e n k) = answer (countedColorPlan true e) n ≡ Written n k
 
 abbrev pub table : List Sheet
 table =
@@ -62,6 +66,7 @@ table =
     ∷ bytes (RgbColorSpace W.D65 P.SRGB F.SRGB Perceptual) 504 24
     ∷ bytes (RgbColorSpace W.D65 P.SRGB F.SRGB Relative) 536 24
     ∷ bytes (GrayscaleColorSpace W.D65 F.SRGB Relative) 328 7
+    ∷ adaptedBytes (GrayscaleColorSpace W.D65 F.SRGB Relative) 384 16
     ∷ bytes (XYB Perceptual) 720 30
     ∷ bytes (XYB Relative) 720 30
     ∷ bytes (XYB Saturation) 720 30
@@ -83,4 +88,5 @@ sheets =
     (more Laws.perceptual-504
     (more Laws.relative-536
     (more Laws.gray-328
-    (more (Laws.xyb-720 Perceptual) (more (Laws.xyb-720 Relative) (more (Laws.xyb-720 Saturation) (more (Laws.xyb-720 Absolute) none))))))))))))))))
+    (more Laws.adapted-384
+    (more (Laws.xyb-720 Perceptual) (more (Laws.xyb-720 Relative) (more (Laws.xyb-720 Saturation) (more (Laws.xyb-720 Absolute) none)))))))))))))))))

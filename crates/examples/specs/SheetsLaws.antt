@@ -1,7 +1,7 @@
 -- The cases of the joint table, one by one, evaluated on the definitions. Assumes nothing.
 use Prim.Native.Nat.{ℕ}
 use mathlib.Core.Path.{_≡_, refl, ap, _∙_}
-use mathlib.Core.Bool.{true, false}
+use mathlib.Core.Bool.{Bool, true, false}
 use mathlib.Core.List.{List, [], _∷_}
 use lib.IntN.{ℤ, pos, negsuc}
 use lib.Ieee.{Float, binary32, ofBits, size, neg, lt, le, eq, add, sub, mul, div}
@@ -33,7 +33,7 @@ use Rattle.adaptation.specs.Adapt.{hasZero, allFinite, lms, gains, adaptable, a
 use Rattle.colorimetry.specs.Primaries.{primariesMatrix, scaledPrimaries, primariesToXyz, primariesToXyzD50, createIccRgbMatrix}
 use Rattle.text.specs.Description.{whiteName, primariesName, transferName, rgbText, grayText, rgbDescription, description}
 use Rattle.profile.specs.Elements.{fileLength, start, bodySize, tagCount, padding}
-use Rattle.profile.specs.Plan.{Plan, gray, rgb, plainPlan}
+use Rattle.profile.specs.Plan.{Plan, unadapted, adapted, gray, rgb, plainPlan}
 use Rattle.profile.specs.Shape.{slotsOf}
 use Rattle.profile.specs.Layout.{layout}
 use Rattle.profile.specs.LayoutLaws.{length-layout}
@@ -41,8 +41,8 @@ use Rattle.profile.specs.declared.CurveName.the-variants as Name
 use Rattle.profile.specs.declared.Curve.the-variants.{Named}
 use Rattle.profile.specs.declared.Cicp.the-variants.{Primaries}
 use Rattle.buffer.specs.Checked.{Checked, is}
-use Rattle.encoding_plan.specs.PlanOf.{xybPlan, planOf}
-use Rattle.encoding_plan.specs.FixedFloats.{fixedFloats, countedPlan}
+use Rattle.encoding_plan.specs.PlanOf.{xybPlan, colorPlan, planOf}
+use Rattle.encoding_plan.specs.FixedFloats.{colorFloats, countedColorPlan, fixedFloats, countedPlan}
 use Rattle.encoding_plan.specs.FixedFloatsLaws.{xyb-count}
 use Rattle.writer.specs.Writer.{answer}
 use Rattle.writer.specs.declared.Profile.the-variants.{Written}
@@ -113,52 +113,71 @@ abbrev columnsSrgb : List ℤ
 columnsSrgb = pos 28575 ∷ pos 14581 ∷ pos 912 ∷ pos 25238 ∷ pos 46983 ∷ pos 6363 ∷ pos 9378 ∷ pos 3973 ∷ pos 46806 ∷ []
 
 -- the length of a plan that is known, and the count
-exact : (e : JxlColorEncoding) (p : Plan) (n k : ℕ) → planOf e ≡ is p → length (layout p) ≡ n → roundedIn (fixedFloats e) ≡ k → answer (countedPlan e) n ≡ Written n k
-exact e p n k h l c = ap (λ (q : Checked Plan). answer (counted (fixedFloats e) q) n) h ∙ simp (l, c, le-leb n n (le-refl n))
+exact : (a : Bool) (e : JxlColorEncoding) (p : Plan) (n k : ℕ) → colorPlan a e ≡ is p → length (layout p) ≡ n → roundedIn (colorFloats a e) ≡ k
+    → answer (countedColorPlan a e) n ≡ Written n k
+exact a e p n k h l c = ap (λ (q : Checked Plan). answer (counted (colorFloats a e) q) n) h ∙ simp (l, c, le-leb n n (le-refl n))
 
 abbrev pub srgbPlan : ℕ → List ℕ → Plan
 srgbPlan i t =
     plainPlan i (rgb (record { text = t; curve = Named Name.SRGB; chad = chadD65; columns = columnsSrgb; cicp = Primaries 1 }))
 
 pub perceptual-plan : planOf (srgb Perceptual) ≡ is (srgbPlan 0 (ascii "sRGB"))
-unfolding planOf description rgbDescription chadMatrix adaptToXyzD50 adaptationMatrix adaptable inRange finite finiteXyz whiteXyz hasZero allFinite lms gains narrowed createIccRgbMatrix primariesToXyzD50 primariesToXyz primariesMatrix scaledPrimaries singular inverse adjugate determinant cofactors cofactor minor abs applied product dot narrow s15Fixed16 ofBits neg eq lt le add sub mul div
+unfolding colorPlan description rgbDescription chadMatrix adaptToXyzD50 adaptationMatrix adaptable inRange finite finiteXyz whiteXyz hasZero allFinite lms gains narrowed createIccRgbMatrix primariesToXyzD50 primariesToXyz primariesMatrix scaledPrimaries singular inverse adjugate determinant cofactors cofactor minor abs applied product dot narrow s15Fixed16 ofBits neg eq lt le add sub mul div
 perceptual-plan = refl
 
 -- all but the Y of `wtpt` and the Z of blue, whatever the intent
 pub srgb-count : (i : RenderingIntent) → roundedIn (fixedFloats (srgb i)) ≡ 24
-unfolding fixedFloats roundedIn whole chadMatrix adaptToXyzD50 adaptationMatrix adaptable inRange finite finiteXyz whiteXyz hasZero allFinite lms gains narrowed createIccRgbMatrix primariesToXyzD50 primariesToXyz primariesMatrix scaledPrimaries singular inverse adjugate determinant cofactors cofactor minor abs applied product dot narrow ofBits neg eq lt le add sub mul div
+unfolding colorFloats roundedIn whole chadMatrix adaptToXyzD50 adaptationMatrix adaptable inRange finite finiteXyz whiteXyz hasZero allFinite lms gains narrowed createIccRgbMatrix primariesToXyzD50 primariesToXyz primariesMatrix scaledPrimaries singular inverse adjugate determinant cofactors cofactor minor abs applied product dot narrow ofBits neg eq lt le add sub mul div
 srgb-count i = refl
 
 pub perceptual-504 : answer (countedPlan (srgb Perceptual)) 504 ≡ Written 504 24
 unfolding slotsOf fileLength start bodySize tagCount padding
-perceptual-504 = exact _ _ 504 24 perceptual-plan (length-layout (srgbPlan 0 (ascii "sRGB")) (refl, refl)) (srgb-count Perceptual)
+perceptual-504 = exact false _ _ 504 24 perceptual-plan (length-layout (srgbPlan 0 (ascii "sRGB")) (refl, refl)) (srgb-count Perceptual)
 
 pub relative-plan : planOf (srgb Relative) ≡ is (srgbPlan 1 (ascii "RGB_D65_SRG_Rel_SRG"))
-unfolding planOf description rgbDescription rgbText whiteName primariesName transferName chadMatrix adaptToXyzD50 adaptationMatrix adaptable inRange finite finiteXyz whiteXyz hasZero allFinite lms gains narrowed createIccRgbMatrix primariesToXyzD50 primariesToXyz primariesMatrix scaledPrimaries singular inverse adjugate determinant cofactors cofactor minor abs applied product dot narrow s15Fixed16 ofBits neg eq lt le add sub mul div
+unfolding colorPlan description rgbDescription rgbText whiteName primariesName transferName chadMatrix adaptToXyzD50 adaptationMatrix adaptable inRange finite finiteXyz whiteXyz hasZero allFinite lms gains narrowed createIccRgbMatrix primariesToXyzD50 primariesToXyz primariesMatrix scaledPrimaries singular inverse adjugate determinant cofactors cofactor minor abs applied product dot narrow s15Fixed16 ofBits neg eq lt le add sub mul div
 relative-plan = refl
 
 pub relative-536 : answer (countedPlan (srgb Relative)) 536 ≡ Written 536 24
 unfolding slotsOf fileLength start bodySize tagCount padding
-relative-536 = exact _ _ 536 24 relative-plan (length-layout (srgbPlan 1 (ascii "RGB_D65_SRG_Rel_SRG")) (refl, refl)) (srgb-count Relative)
+relative-536 = exact false _ _ 536 24 relative-plan (length-layout (srgbPlan 1 (ascii "RGB_D65_SRG_Rel_SRG")) (refl, refl)) (srgb-count Relative)
 
 abbrev grayD65 : Plan
 grayD65 =
-    plainPlan 1 (gray (record { text = ascii "Gra_D65_Rel_SRG"; curve = Named Name.SRGB; white-x = pos 62289; white-z = pos 71372 }))
+    plainPlan 1 (gray (record { text = ascii "Gra_D65_Rel_SRG"; curve = Named Name.SRGB; white = unadapted (pos 62289) (pos 71372) }))
 
 pub gray-plan : planOf (GrayscaleColorSpace W.D65 F.SRGB Relative) ≡ is grayD65
-unfolding planOf description grayText whiteName transferName cieXyzFromWhiteCieXy abs s15Fixed16 ofBits neg eq lt le add sub mul div
+unfolding colorPlan description grayText whiteName transferName cieXyzFromWhiteCieXy abs s15Fixed16 ofBits neg eq lt le add sub mul div
 gray-plan = refl
 
 -- all but the Y of `wtpt`
 gray-count : roundedIn (fixedFloats (GrayscaleColorSpace W.D65 F.SRGB Relative)) ≡ 7
-unfolding fixedFloats roundedIn whole cieXyzFromWhiteCieXy abs ofBits neg eq lt le add sub mul div
+unfolding colorFloats roundedIn whole cieXyzFromWhiteCieXy abs ofBits neg eq lt le add sub mul div
 gray-count = refl
 
 pub gray-328 : answer (countedPlan (GrayscaleColorSpace W.D65 F.SRGB Relative)) 328 ≡ Written 328 7
 unfolding slotsOf fileLength start bodySize tagCount padding
-gray-328 = exact _ _ 328 7 gray-plan (length-layout grayD65 tt) gray-count
+gray-328 = exact false _ _ 328 7 gray-plan (length-layout grayD65 tt) gray-count
+
+-- with the mark "adapted" (02, order 9): `chad` is that of sRGB
+abbrev adaptedGrayD65 : Plan
+adaptedGrayD65 =
+    plainPlan 1 (gray (record { text = ascii "Gra_D65_Rel_SRG"; curve = Named Name.SRGB; white = adapted chadD65 }))
+
+adapted-plan : colorPlan true (GrayscaleColorSpace W.D65 F.SRGB Relative) ≡ is adaptedGrayD65
+unfolding colorPlan description grayText whiteName transferName chadMatrix adaptToXyzD50 adaptationMatrix adaptable inRange finite finiteXyz whiteXyz hasZero allFinite lms gains narrowed abs applied product dot narrow s15Fixed16 ofBits neg eq lt le add sub mul div
+adapted-plan = refl
+
+-- all but the Y of `wtpt`
+adapted-count : roundedIn (colorFloats true (GrayscaleColorSpace W.D65 F.SRGB Relative)) ≡ 16
+unfolding colorFloats roundedIn whole chadMatrix adaptToXyzD50 adaptationMatrix adaptable inRange finite finiteXyz whiteXyz hasZero allFinite lms gains narrowed abs applied product dot narrow ofBits neg eq lt le add sub mul div
+adapted-count = refl
+
+pub adapted-384 : answer (countedColorPlan true (GrayscaleColorSpace W.D65 F.SRGB Relative)) 384 ≡ Written 384 16
+unfolding slotsOf fileLength start bodySize tagCount padding
+adapted-384 = exact true _ _ 384 16 adapted-plan (length-layout adaptedGrayD65 refl) adapted-count
 
 -- whatever the intent
 pub xyb-720 : (i : RenderingIntent) → answer (countedPlan (XYB i)) 720 ≡ Written 720 30
-unfolding planOf slotsOf fileLength start bodySize tagCount padding
-xyb-720 i = exact (XYB i) (xybPlan i) 720 30 refl (length-layout (xybPlan i) tt) (xyb-count i)
+unfolding colorPlan slotsOf fileLength start bodySize tagCount padding
+xyb-720 i = exact false (XYB i) (xybPlan i) 720 30 refl (length-layout (xybPlan i) tt) (xyb-count false i)

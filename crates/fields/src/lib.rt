@@ -51,13 +51,20 @@ pub fn kind_of(file: &[u8]) -> Kind
 
 // ---- the shape
 
-// The lines of the text, which every kind has, and of the curve of gray.
+// The line of the text, which every kind has.
 pub const DESC_LINE: usize = 0;
 
-pub const GRAY_CURVE_LINE: usize = 3;
-
-// The number of tags of an RGB profile with `cicp`, which has the most.
+// The number of tags of an RGB profile with `cicp`, which has the most, and of a gray one whose white is adapted to D50.
 const CICP_TAGS: u32 = MAX_TAGS as u32;
+
+const ADAPTED_TAGS: u32 = 5;
+
+// The line of gray's curve.
+pub fn gray_curve_line(adapted: bool) -> usize
+    ensures { λ r. ⌜ r ≡ PlanIn.grayCurveLine adapted ⌝ }
+{
+    if adapted { 4 } else { 3 }
+}
 
 // The line of RGB's red column; those of the green and the blue one and of the curve follow.
 pub fn red_line(cicp: bool) -> usize
@@ -78,8 +85,8 @@ fn letters_for(size: u32) -> usize
 }
 
 // A shape by the sizes of the elements of text and curve.
-fn shape_by_sizes(file: &[u8], kind: Kind, curve_line: usize, cicp: bool) -> Shape
-    ensures { λ r. ⌜ r ≡ record { kind = kind; letters = PlanIn.lettersFor (Table.lineIn (now (file .entry)) 0 .size); gamma = eqb (Table.lineIn (now (file .entry)) «curve_line» .size) (curveSize true); cicp = cicp } ⌝ }
+fn shape_by_sizes(file: &[u8], kind: Kind, curve_line: usize, cicp: bool, adapted: bool) -> Shape
+    ensures { λ r. ⌜ r ≡ record { kind = kind; letters = PlanIn.lettersFor (Table.lineIn (now (file .entry)) 0 .size); gamma = eqb (Table.lineIn (now (file .entry)) «curve_line» .size) (curveSize true); cicp = cicp; adapted = adapted } ⌝ }
 {
     let text = line_at(file, DESC_LINE);
     let curve = line_at(file, curve_line);
@@ -88,6 +95,7 @@ fn shape_by_sizes(file: &[u8], kind: Kind, curve_line: usize, cicp: bool) -> Sha
         letters: letters_for(text.size),
         gamma: curve.size == GAMMA_SIZE,
         cicp,
+        adapted,
     }
 }
 
@@ -96,16 +104,20 @@ pub fn shape_in(file: &[u8], kind: Kind) -> Shape
     ensures { λ r. ⌜ r ≡ PlanIn.shapeFrom kind (Table.entriesOf (now (file .entry))) ⌝ }
 {
     match kind {
-        Kind::Gray => shape_by_sizes(file, Kind::Gray, GRAY_CURVE_LINE, false),
+        Kind::Gray => {
+            let adapted = tag_count(file) == ADAPTED_TAGS;
+            shape_by_sizes(file, Kind::Gray, gray_curve_line(adapted), false, adapted)
+        }
         Kind::Rgb => {
             let cicp = tag_count(file) == CICP_TAGS;
-            shape_by_sizes(file, Kind::Rgb, red_line(cicp) + 3, cicp)
+            shape_by_sizes(file, Kind::Rgb, red_line(cicp) + 3, cicp, false)
         }
         Kind::Xyb => Shape {
             kind: Kind::Xyb,
             letters: profile::XYB_LETTERS,
             gamma: false,
             cicp: false,
+            adapted: false,
         },
     }
 }

@@ -17,7 +17,8 @@ ghost use Rattle.reader_spec.specs.Read as Read;
 ghost use Rattle.reader_spec.specs.Finder as Finder;
 ghost use Rattle.reading.specs.Reading.{reading};
 ghost use Rattle.app2.specs.App2.{writtenSegments, joinedFile};
-ghost use Rattle.coded_writer.specs.CodedWriter.{WritesCode, MeasuresCode, WritesCounted, MeasuresCounted};
+ghost use mathlib.Core.Bool.{false};
+ghost use Rattle.coded_writer.specs.CodedWriter.{coded, plain, codedBy, WritesCode, MeasuresCode, WritesCounted, MeasuresCounted};
 ghost use Rattle.host.specs.Host.{CountsEntries, profileNumber, ReadsPlan, StoresEncoding, FindsElement, GivesNumber};
 
 // ---- the profile of an encoding
@@ -32,7 +33,7 @@ pub extern "C" fn merqyduk_write_gray(
     intent: u32,
     out: &mut [u8],
 ) -> u32
-    ensures { λ r. ⌜ WritesCode 0 0 (grayFrom (whitePointFrom white wx wy) (transferFunctionFrom curve gamma) (intentFrom intent)) (now (out .entry)) (now (out .exit)) r ⌝ }
+    ensures { λ r. ⌜ WritesCode (plain (grayFrom (whitePointFrom white wx wy) (transferFunctionFrom curve gamma) (intentFrom intent))) (now (out .entry)) (now (out .exit)) r ⌝ }
 {
     coded_writer::write(
         encoding_codes::gray_from_numbers(white, wx, wy, curve, gamma, intent),
@@ -59,7 +60,7 @@ pub extern "C" fn merqyduk_write_rgb(
     intent: u32,
     out: &mut [u8],
 ) -> u32
-    ensures { λ r. ⌜ WritesCode 0 0 (rgbFrom (whitePointFrom white wx wy) (primariesFrom primaries rx ry gx gy bx by) (transferFunctionFrom curve gamma) (intentFrom intent)) (now (out .entry)) (now (out .exit)) r ⌝ }
+    ensures { λ r. ⌜ WritesCode (plain (rgbFrom (whitePointFrom white wx wy) (primariesFrom primaries rx ry gx gy bx by) (transferFunctionFrom curve gamma) (intentFrom intent))) (now (out .entry)) (now (out .exit)) r ⌝ }
 {
     coded_writer::write(
         encoding_codes::rgb_from_numbers(
@@ -85,7 +86,7 @@ pub extern "C" fn merqyduk_write_rgb(
 
 #[no_mangle]
 pub extern "C" fn merqyduk_write_xyb(intent: u32, out: &mut [u8]) -> u32
-    ensures { λ r. ⌜ WritesCode 0 0 (xybFrom (intentFrom intent)) (now (out .entry)) (now (out .exit)) r ⌝ }
+    ensures { λ r. ⌜ WritesCode (plain (xybFrom (intentFrom intent))) (now (out .entry)) (now (out .exit)) r ⌝ }
 {
     coded_writer::write(encoding_codes::xyb_from_number(intent), 0, 0, out)
 }
@@ -104,7 +105,7 @@ pub extern "C" fn merqyduk_write_gray_device(
     model: u32,
     out: &mut [u8],
 ) -> u32
-    ensures { λ r. ⌜ WritesCode maker model (grayFrom (whitePointFrom white wx wy) (transferFunctionFrom curve gamma) (intentFrom intent)) (now (out .entry)) (now (out .exit)) r ⌝ }
+    ensures { λ r. ⌜ WritesCode (coded false maker model (grayFrom (whitePointFrom white wx wy) (transferFunctionFrom curve gamma) (intentFrom intent))) (now (out .entry)) (now (out .exit)) r ⌝ }
 {
     coded_writer::write(
         encoding_codes::gray_from_numbers(white, wx, wy, curve, gamma, intent),
@@ -133,7 +134,7 @@ pub extern "C" fn merqyduk_write_rgb_device(
     model: u32,
     out: &mut [u8],
 ) -> u32
-    ensures { λ r. ⌜ WritesCode maker model (rgbFrom (whitePointFrom white wx wy) (primariesFrom primaries rx ry gx gy bx by) (transferFunctionFrom curve gamma) (intentFrom intent)) (now (out .entry)) (now (out .exit)) r ⌝ }
+    ensures { λ r. ⌜ WritesCode (coded false maker model (rgbFrom (whitePointFrom white wx wy) (primariesFrom primaries rx ry gx gy bx by) (transferFunctionFrom curve gamma) (intentFrom intent))) (now (out .entry)) (now (out .exit)) r ⌝ }
 {
     coded_writer::write(
         encoding_codes::rgb_from_numbers(
@@ -164,7 +165,7 @@ pub extern "C" fn merqyduk_write_xyb_device(
     model: u32,
     out: &mut [u8],
 ) -> u32
-    ensures { λ r. ⌜ WritesCode maker model (xybFrom (intentFrom intent)) (now (out .entry)) (now (out .exit)) r ⌝ }
+    ensures { λ r. ⌜ WritesCode (coded false maker model (xybFrom (intentFrom intent))) (now (out .entry)) (now (out .exit)) r ⌝ }
 {
     coded_writer::write(encoding_codes::xyb_from_number(intent), maker, model, out)
 }
@@ -181,7 +182,7 @@ pub extern "C" fn merqyduk_length_gray(
     intent: u32,
     capacity: usize,
 ) -> u32
-    ensures { λ r. ⌜ MeasuresCode (grayFrom (whitePointFrom white wx wy) (transferFunctionFrom curve gamma) (intentFrom intent)) capacity r ⌝ }
+    ensures { λ r. ⌜ MeasuresCode (plain (grayFrom (whitePointFrom white wx wy) (transferFunctionFrom curve gamma) (intentFrom intent))) capacity r ⌝ }
 {
     coded_writer::length(
         encoding_codes::gray_from_numbers(white, wx, wy, curve, gamma, intent),
@@ -206,7 +207,7 @@ pub extern "C" fn merqyduk_length_rgb(
     intent: u32,
     capacity: usize,
 ) -> u32
-    ensures { λ r. ⌜ MeasuresCode (rgbFrom (whitePointFrom white wx wy) (primariesFrom primaries rx ry gx gy bx by) (transferFunctionFrom curve gamma) (intentFrom intent)) capacity r ⌝ }
+    ensures { λ r. ⌜ MeasuresCode (plain (rgbFrom (whitePointFrom white wx wy) (primariesFrom primaries rx ry gx gy bx by) (transferFunctionFrom curve gamma) (intentFrom intent))) capacity r ⌝ }
 {
     coded_writer::length(
         encoding_codes::rgb_from_numbers(
@@ -230,7 +231,7 @@ pub extern "C" fn merqyduk_length_rgb(
 
 #[no_mangle]
 pub extern "C" fn merqyduk_length_xyb(intent: u32, capacity: usize) -> u32
-    ensures { λ r. ⌜ MeasuresCode (xybFrom (intentFrom intent)) capacity r ⌝ }
+    ensures { λ r. ⌜ MeasuresCode (plain (xybFrom (intentFrom intent))) capacity r ⌝ }
 {
     coded_writer::length(encoding_codes::xyb_from_number(intent), capacity)
 }
@@ -248,7 +249,7 @@ pub extern "C" fn merqyduk_write_gray_counted(
     out: &mut [u8],
     rounded: &mut u32,
 ) -> u32
-    ensures { λ r. ⌜ WritesCounted (grayFrom (whitePointFrom white wx wy) (transferFunctionFrom curve gamma) (intentFrom intent)) (now (out .entry)) (now (out .exit)) (now (rounded .entry)) (now (rounded .exit)) r ⌝ }
+    ensures { λ r. ⌜ WritesCounted (plain (grayFrom (whitePointFrom white wx wy) (transferFunctionFrom curve gamma) (intentFrom intent))) (now (out .entry)) (now (out .exit)) (now (rounded .entry)) (now (rounded .exit)) r ⌝ }
 {
     coded_writer::write_counted(
         encoding_codes::gray_from_numbers(white, wx, wy, curve, gamma, intent),
@@ -275,7 +276,7 @@ pub extern "C" fn merqyduk_write_rgb_counted(
     out: &mut [u8],
     rounded: &mut u32,
 ) -> u32
-    ensures { λ r. ⌜ WritesCounted (rgbFrom (whitePointFrom white wx wy) (primariesFrom primaries rx ry gx gy bx by) (transferFunctionFrom curve gamma) (intentFrom intent)) (now (out .entry)) (now (out .exit)) (now (rounded .entry)) (now (rounded .exit)) r ⌝ }
+    ensures { λ r. ⌜ WritesCounted (plain (rgbFrom (whitePointFrom white wx wy) (primariesFrom primaries rx ry gx gy bx by) (transferFunctionFrom curve gamma) (intentFrom intent))) (now (out .entry)) (now (out .exit)) (now (rounded .entry)) (now (rounded .exit)) r ⌝ }
 {
     coded_writer::write_counted(
         encoding_codes::rgb_from_numbers(
@@ -300,7 +301,7 @@ pub extern "C" fn merqyduk_write_rgb_counted(
 
 #[no_mangle]
 pub extern "C" fn merqyduk_write_xyb_counted(intent: u32, out: &mut [u8], rounded: &mut u32) -> u32
-    ensures { λ r. ⌜ WritesCounted (xybFrom (intentFrom intent)) (now (out .entry)) (now (out .exit)) (now (rounded .entry)) (now (rounded .exit)) r ⌝ }
+    ensures { λ r. ⌜ WritesCounted (plain (xybFrom (intentFrom intent))) (now (out .entry)) (now (out .exit)) (now (rounded .entry)) (now (rounded .exit)) r ⌝ }
 {
     coded_writer::write_counted(encoding_codes::xyb_from_number(intent), out, rounded)
 }
@@ -316,7 +317,7 @@ pub extern "C" fn merqyduk_length_gray_counted(
     capacity: usize,
     rounded: &mut u32,
 ) -> u32
-    ensures { λ r. ⌜ MeasuresCounted (grayFrom (whitePointFrom white wx wy) (transferFunctionFrom curve gamma) (intentFrom intent)) capacity (now (rounded .entry)) (now (rounded .exit)) r ⌝ }
+    ensures { λ r. ⌜ MeasuresCounted (plain (grayFrom (whitePointFrom white wx wy) (transferFunctionFrom curve gamma) (intentFrom intent))) capacity (now (rounded .entry)) (now (rounded .exit)) r ⌝ }
 {
     coded_writer::length_counted(
         encoding_codes::gray_from_numbers(white, wx, wy, curve, gamma, intent),
@@ -343,7 +344,7 @@ pub extern "C" fn merqyduk_length_rgb_counted(
     capacity: usize,
     rounded: &mut u32,
 ) -> u32
-    ensures { λ r. ⌜ MeasuresCounted (rgbFrom (whitePointFrom white wx wy) (primariesFrom primaries rx ry gx gy bx by) (transferFunctionFrom curve gamma) (intentFrom intent)) capacity (now (rounded .entry)) (now (rounded .exit)) r ⌝ }
+    ensures { λ r. ⌜ MeasuresCounted (plain (rgbFrom (whitePointFrom white wx wy) (primariesFrom primaries rx ry gx gy bx by) (transferFunctionFrom curve gamma) (intentFrom intent))) capacity (now (rounded .entry)) (now (rounded .exit)) r ⌝ }
 {
     coded_writer::length_counted(
         encoding_codes::rgb_from_numbers(
@@ -372,9 +373,59 @@ pub extern "C" fn merqyduk_length_xyb_counted(
     capacity: usize,
     rounded: &mut u32,
 ) -> u32
-    ensures { λ r. ⌜ MeasuresCounted (xybFrom (intentFrom intent)) capacity (now (rounded .entry)) (now (rounded .exit)) r ⌝ }
+    ensures { λ r. ⌜ MeasuresCounted (plain (xybFrom (intentFrom intent))) capacity (now (rounded .entry)) (now (rounded .exit)) r ⌝ }
 {
     coded_writer::length_counted(encoding_codes::xyb_from_number(intent), capacity, rounded)
+}
+
+// ---- gray with the mark "adapted" as a number, 0 or 1, with maker and model and with the count
+
+#[no_mangle]
+pub extern "C" fn merqyduk_write_gray_adapted(
+    white: u32,
+    wx: f32,
+    wy: f32,
+    curve: u32,
+    gamma: f32,
+    intent: u32,
+    adapted: u32,
+    maker: u32,
+    model: u32,
+    out: &mut [u8],
+    rounded: &mut u32,
+) -> u32
+    ensures { λ r. ⌜ WritesCounted (codedBy adapted maker model (grayFrom (whitePointFrom white wx wy) (transferFunctionFrom curve gamma) (intentFrom intent))) (now (out .entry)) (now (out .exit)) (now (rounded .entry)) (now (rounded .exit)) r ⌝ }
+{
+    coded_writer::write_adapted(
+        encoding_codes::gray_from_numbers(white, wx, wy, curve, gamma, intent),
+        adapted,
+        maker,
+        model,
+        out,
+        rounded,
+    )
+}
+
+#[no_mangle]
+pub extern "C" fn merqyduk_length_gray_adapted(
+    white: u32,
+    wx: f32,
+    wy: f32,
+    curve: u32,
+    gamma: f32,
+    intent: u32,
+    adapted: u32,
+    capacity: usize,
+    rounded: &mut u32,
+) -> u32
+    ensures { λ r. ⌜ MeasuresCounted (codedBy adapted 0 0 (grayFrom (whitePointFrom white wx wy) (transferFunctionFrom curve gamma) (intentFrom intent))) capacity (now (rounded .entry)) (now (rounded .exit)) r ⌝ }
+{
+    coded_writer::length_adapted(
+        encoding_codes::gray_from_numbers(white, wx, wy, curve, gamma, intent),
+        adapted,
+        capacity,
+        rounded,
+    )
 }
 
 // ---- the encoding that a typed text describes

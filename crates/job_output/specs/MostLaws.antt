@@ -1,5 +1,6 @@
 -- Lemmas of Most.antt: the most bytes of a line, and of the parts of all entries. Assumes nothing.
 use Prim.Native.Nat.{ℕ, _*_, _≤_}
+use mathlib.Core.Bool.{false}
 use mathlib.Core.Path.{_≡_, refl}
 use mathlib.Core.List.{List, map}
 use native.Mathlib.Omega.{arith}
@@ -27,8 +28,8 @@ answer-most : (e : JxlColorEncoding) → HeldEncoding e → length (lengthOrRefu
 answer-most e h = go (planOf e) refl
   where
     go : (c : Checked Plan) → planOf e ≡ c → length (lengthOrRefusal (enough (counted (fixedFloats e) c))) ≤ 9
-    go (is p) q = omega (arith, length-digits 3 (length (layout p)) (omega (arith, written-length e h q .1)))
-    go (refused k) q = simp length-append (omega (arith, length-digits 0 k (omega (arith, refusal-number e q .1))))
+    go (is p) q = omega (arith, length-digits 3 (length (layout p)) (omega (arith, written-length false e h q .1)))
+    go (refused k) q = simp length-append (omega (arith, length-digits 0 k (omega (arith, refusal-number false e q .1))))
 
 pub line-most : (e : JobEntry) → EntryBounds e → length (entryLine e) ≤ 16
 line-most e f =

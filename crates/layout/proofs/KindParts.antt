@@ -6,15 +6,15 @@ use mathlib.Core.List.{List, [], _∷_, _++_, append-nil}
 use native.Mathlib.Omega.{arith}
 use lib.ListN.{length, take, drop, length-drop}
 use lib.Seq.{length-take-le, take-all}
-use lib.IntN.{ℤ, pos}
+use lib.IntN.{ℤ}
 use Rattle.buffer.specs.Ascii.{ascii}
 use Rattle.xyb_constants.specs.XybNumbers as XybNumbers
 use Rattle.profile.specs.Elements.{padding, padded, paddedSize, body, bodySize}
 use Rattle.profile.specs.ElementsLaws.{length-body, body-append}
-use Rattle.profile.specs.Layout.{tag, D50, xybText, firstElements, cicpElement, colorElements, elementsFor, elements}
+use Rattle.profile.specs.Layout.{tag, D50, xybText, firstElements, whiteNumbers, chadElement, cicpElement, colorElements, elementsFor, elements}
 use Rattle.profile.specs.Plan.{Content, GrayContent, RgbContent, gray, rgb, xyb, plainPlan}
 use Rattle.profile.specs.PlanLaws.{Nines, slots-shape}
-use Rattle.profile.specs.Shape.{mlucSize, curveSize, isGamma, shapeOf, firstSlots, colorSlots, cicpSlot, slotsOf, xybShape, xybLetters}
+use Rattle.profile.specs.Shape.{mlucSize, curveSize, isGamma, shapeOf, firstSlots, chadSlot, colorSlots, cicpSlot, slotsOf, xybShape, xybLetters}
 use Rattle.profile.specs.Signatures as Sig
 use Rattle.profile.specs.TagTypes.{join, mluc, xyz, sf32, curve}
 use Rattle.profile.specs.TagTypesLaws.{length-mluc, length-xyz, length-curve}
@@ -37,13 +37,16 @@ unfolding bodySize padding
 color-size true = refl
 color-size false = refl
 
-pub gray-size : (n : ℕ) (g : Bool) → bodySize (slotsOf (record { kind = Gray; letters = n; gamma = g; cicp = false })) ≡ bodySize (firstSlots n) + curveSize g
+pub gray-size : (n : ℕ) (g a : Bool)
+    → bodySize (slotsOf (record { kind = Gray; letters = n; gamma = g; cicp = false; adapted = a })) ≡ bodySize (firstSlots n) + bodySize (chadSlot a) + curveSize g
 unfolding slotsOf bodySize padding
-gray-size n true = omega arith
-gray-size n false = omega arith
+gray-size n true true = omega arith
+gray-size n true false = omega arith
+gray-size n false true = omega arith
+gray-size n false false = omega arith
 
 pub rgb-size : (n : ℕ) (g v : Bool)
-    → bodySize (slotsOf (record { kind = Rgb; letters = n; gamma = g; cicp = v }))
+    → bodySize (slotsOf (record { kind = Rgb; letters = n; gamma = g; cicp = v; adapted = false }))
     ≡ bodySize (firstSlots n) + 44 + bodySize (cicpSlot v) + bodySize (colorSlots (curveSize g))
 unfolding slotsOf bodySize padding
 rgb-size n true true = omega arith
@@ -89,12 +92,12 @@ module _ (k : List ℤ) (c : Curve) (h : length k ≡ 9) where
 
 -- ---- each kind
 
-pub gray-parts : (i : ℕ) (g : GrayContent) (x z : ℤ) → x ≡ g .white-x → z ≡ g .white-z
-    → body (elementsFor i (gray g)) ≡ join (body (firstElements (g .text) (x ∷ pos 65536 ∷ z ∷ [])) ∷ padded (curve (g .curve)) ∷ [])
+pub gray-parts : (i : ℕ) (g : GrayContent) (w : List ℤ) → w ≡ whiteNumbers (g .white)
+    → body (elementsFor i (gray g)) ≡ join (body (firstElements (g .text) w) ∷ body (chadElement (g .white)) ∷ padded (curve (g .curve)) ∷ [])
 unfolding join body
-gray-parts i g x z hx hz =
-    body-append (firstElements (g .text) (g .white-x ∷ pos 65536 ∷ g .white-z ∷ [])) (tag Sig.kTRC (curve (g .curve)) ∷ [])
-    ∙ ap₂ (λ (x z : ℤ). body (firstElements (g .text) (x ∷ pos 65536 ∷ z ∷ [])) ++ (padded (curve (g .curve)) ++ [])) (sym hx) (sym hz)
+gray-parts i g w h =
+    body-append (firstElements (g .text) (whiteNumbers (g .white))) (chadElement (g .white) ++ (tag Sig.kTRC (curve (g .curve)) ∷ []))
+    ∙ ap₂ (λ (w : List ℤ) (l : List ℕ). body (firstElements (g .text) w) ++ l) (sym h) (body-append (chadElement (g .white)) (tag Sig.kTRC (curve (g .curve)) ∷ []))
 
 pub rgb-parts : (i : ℕ) (g : RgbContent)
     → body (elementsFor i (rgb g))

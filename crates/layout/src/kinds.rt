@@ -4,7 +4,8 @@ ghost use lib.ListN.{length};
 ghost use Rattle.buffer.specs.Puts.{Puts};
 ghost use Rattle.profile.specs.Elements.{body, bodySize};
 ghost use Rattle.profile.specs.Layout as Layout;
-ghost use Rattle.profile.specs.Numbers.{contentBy, planOf};
+ghost use mathlib.Core.Path.{_≡_};
+ghost use Rattle.profile.specs.Numbers.{whiteOf, contentBy, planOf};
 ghost use Rattle.profile.specs.Plan.{maxLetters};
 ghost use Rattle.profile.specs.Shape as Shapes;
 use elements::D50;
@@ -36,13 +37,35 @@ fn put_color_elements(out: &mut [u8], at: usize, columns: [i32; 9], curve: Curve
     elements::put_curve(out, at, curve)
 }
 
+// The white of a gray profile: its own or, adapted, that of the PCS.
+fn gray_white(plan: Numbers) -> [i32; 3]
+    ensures { λ r. ⌜ r ≡ Layout.whiteNumbers (whiteOf plan) ⌝ }
+{
+    if plan.adapted {
+        return D50;
+    }
+    [plan.white_x, WHITE_Y, plan.white_z]
+}
+
+// The `chad` of a gray profile, if its white is adapted.
+fn put_gray_chad(out: &mut [u8], at: usize, plan: Numbers) -> usize
+    requires { ⌜ at + bodySize (Shapes.chadSlot (plan .adapted)) ≤ length (now out) ⌝ }
+    ensures { λ r. ⌜ Puts (now (out .entry)) at (bodySize (Shapes.chadSlot (plan .adapted))) (body (Layout.chadElement (whiteOf plan))) r (now (out .exit)) ⌝ }
+{
+    let chad = plan.chad;
+    if plan.adapted {
+        return elements::create_icc_chad_tag(out, at, &chad);
+    }
+    at
+}
+
 fn put_gray_elements(out: &mut [u8], at: usize, plan: Numbers, text: &[u8]) -> usize
     requires { ⌜ (length (now text) ≤ maxLetters) × (at + bodySize (Shapes.slotsOf (Shapes.shapeOf (contentBy Kind.Gray plan (now text)))) ≤ length (now out)) ⌝ }
     ensures { λ r. ⌜ Puts (now (out .entry)) at (bodySize (Shapes.slotsOf (Shapes.shapeOf (contentBy Kind.Gray plan (now (text .entry)))))) (body (Layout.elementsFor (plan .intent) (contentBy Kind.Gray plan (now (text .entry))))) r (now (out .exit)) ⌝ }
 {
     let curve = plan.curve;
-    let white = [plan.white_x, WHITE_Y, plan.white_z];
-    let at = put_first_elements(out, at, text, white);
+    let at = put_first_elements(out, at, text, gray_white(plan));
+    let at = put_gray_chad(out, at, plan);
     elements::put_curve(out, at, curve)
 }
 

@@ -1,6 +1,6 @@
 // The numbers and the text of the one plan that a file can have, each from the element that the file's own table names.
 use fields::DESC_LINE;
-use fields::GRAY_CURVE_LINE;
+use fields::gray_curve_line;
 use fields::red_line;
 use header::MAKER;
 use header::MODEL;
@@ -158,13 +158,16 @@ fn columns_in(file: &[u8], red_line: usize) -> [i32; 9]
 
 // ---- the plan
 
-// The numbers of a gray plan.
+// The numbers of a gray plan: X and Z of its white or, where this is adapted, `chad`.
 fn gray_in(file: &[u8], shape: Shape, intent: u32) -> Numbers
     ensures { λ r. ⌜ r ≡ numbersFor intent (PlanIn.contentFrom Kind.Gray shape (PlanIn.elementIn (now (file .entry)))) ⌝ }
 {
+    let curve = curve_in(file, gray_curve_line(shape.adapted), shape.gamma);
+    if shape.adapted {
+        return profile::gray_numbers(intent, curve, true, 0, 0, chad_in(file));
+    }
     let white = xyz_in(file, WTPT_LINE);
-    let curve = curve_in(file, GRAY_CURVE_LINE, shape.gamma);
-    profile::gray_numbers(intent, curve, white.x, white.z)
+    profile::gray_numbers(intent, curve, false, white.x, white.z, [0; 9])
 }
 
 // The numbers of an RGB plan.

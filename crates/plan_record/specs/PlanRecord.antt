@@ -27,7 +27,7 @@ words32le (suc n) l = word32le l ∷ words32le n (drop 4 l)
 
 -- how many numbers there are, and how many bytes numbers and letters have
 abbrev pub numberCount : ℕ
-numberCount = 29
+numberCount = 30
 
 abbrev pub recordSize : ℕ
 recordSize = 4 * numberCount + maxLetters
@@ -35,8 +35,8 @@ recordSize = 4 * numberCount + maxLetters
 -- the numbers in the order of the struct; an int32_t is held by its two's complement
 unfoldable pub recordNumbers : Reading → List ℕ
 recordNumbers r =
-    r .kind ∷ r .intent ∷ r .maker ∷ r .model ∷ r .«id_not_computed» ∷ r .curve ∷ twosComplement32 (r .gamma) ∷ r .cicp ∷ twosComplement32 (r .«white_x»)
-    ∷ twosComplement32 (r .«white_z»)
+    r .kind ∷ r .intent ∷ r .maker ∷ r .model ∷ r .«id_not_computed» ∷ r .curve ∷ twosComplement32 (r .gamma) ∷ r .cicp ∷ r .adapted
+    ∷ twosComplement32 (r .«white_x») ∷ twosComplement32 (r .«white_z»)
     ∷ (map twosComplement32 (r .chad) ++ (map twosComplement32 (r .columns) ++ (r .letters ∷ [])))
 
 unfoldable pub planRecord : Reading → List ℕ
@@ -56,11 +56,12 @@ readingOf numbers text =
       curve = getD numbers 5 0;
       gamma = signed32 (getD numbers 6 0);
       cicp = getD numbers 7 0;
-      «white_x» = signed32 (getD numbers 8 0);
-      «white_z» = signed32 (getD numbers 9 0);
-      chad = map signed32 (take 9 (drop 10 numbers));
-      columns = map signed32 (take 9 (drop 19 numbers));
-      letters = getD numbers 28 0;
+      adapted = getD numbers 8 0;
+      «white_x» = signed32 (getD numbers 9 0);
+      «white_z» = signed32 (getD numbers 10 0);
+      chad = map signed32 (take 9 (drop 11 numbers));
+      columns = map signed32 (take 9 (drop 20 numbers));
+      letters = getD numbers 29 0;
       text = text;
     }
 

@@ -69,10 +69,10 @@ module _ (r : Reading) where
   -- as the code puts them
   pub record-parts : planRecord r
       ≡ join
-      (le32s (take 10 (recordNumbers r)) ∷ le32s (map twosComplement32 (r .chad)) ∷ le32s (map twosComplement32 (r .columns)) ∷ le32 (r .letters) ∷ r .text ∷ [])
+      (le32s (take 11 (recordNumbers r)) ∷ le32s (map twosComplement32 (r .chad)) ∷ le32s (map twosComplement32 (r .columns)) ∷ le32 (r .letters) ∷ r .text ∷ [])
   unfolding planRecord recordNumbers join
   record-parts =
-      rw (le32s-append (take 10 (recordNumbers r)) (map twosComplement32 (r .chad) ++ (map twosComplement32 (r .columns) ++ (r .letters ∷ []))))
+      rw (le32s-append (take 11 (recordNumbers r)) (map twosComplement32 (r .chad) ++ (map twosComplement32 (r .columns) ++ (r .letters ∷ []))))
       (simp (le32s-append, append-assoc, append-nil, unsigned .cons, unsigned .nil))
 
   module _ (chad : length (r .chad) ≡ 9) (columns : length (r .columns) ≡ 9) where

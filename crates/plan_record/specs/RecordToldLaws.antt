@@ -15,8 +15,8 @@ use Rattle.buffer.specs.All.{All, none, more}
 use Rattle.buffer.specs.AllLaws.{All-append, All-map, All-replicate}
 use Rattle.words.specs.Words.{twosComplement32, signed32}
 use Rattle.words.specs.WordsLaws.{twosComplement32-lt, signed32-twosComplement32}
-use Rattle.profile.specs.Plan.{Plan, Content, gray, rgb, xyb, GoodCicp, GoodContent, GoodCurve, GoodIntent, Valid, maxLetters}
-use Rattle.profile.specs.Numbers.{numbersFor, numbersOf, textFor, textOf}
+use Rattle.profile.specs.Plan.{Plan, GrayWhite, unadapted, adapted, Content, gray, rgb, xyb, GoodCicp, GoodWhite, GoodContent, GoodCurve, GoodIntent, Valid, maxLetters}
+use Rattle.profile.specs.Numbers.{whiteX, whiteZ, whiteChad, numbersFor, numbersOf, textFor, textOf}
 use Rattle.profile.specs.declared.Kind.{Kind}
 use Rattle.profile.specs.declared.Kind.the-variants.{Gray, Rgb, Xyb}
 use Rattle.profile.specs.declared.CurveName.{CurveName}
@@ -50,6 +50,7 @@ pub record Held (r : Reading) : Type 0 where
   pub curve : Word (r .curve)
   pub gamma : SFits w32 (r .gamma)
   pub cicp : Word (r .cicp)
+  pub adapted : Word (r .adapted)
   pub white-x : SFits w32 (r .«white_x»)
   pub white-z : SFits w32 (r .«white_z»)
   pub chad : Nine (r .chad)
@@ -89,23 +90,24 @@ module _ (r : Reading) (h : Held r) where
       (more (h .curve)
       (more (twosComplement32-lt (r .gamma) (h .gamma))
       (more (h .cicp)
+      (more (h .adapted)
       (more (twosComplement32-lt (r .«white_x») (h .white-x))
       (more (twosComplement32-lt (r .«white_z») (h .white-z))
-      (All-append (nine-words (h .chad)) (All-append (nine-words (h .columns)) (more (h .letters) none))))))))))))
+      (All-append (nine-words (h .chad)) (All-append (nine-words (h .columns)) (more (h .letters) none)))))))))))))
 
   -- the nine numbers of chad, those of the columns, and what follows them, in the numbers of the struct
-  chad-back : map signed32 (take 9 (drop 10 (recordNumbers r))) ≡ r .chad
+  chad-back : map signed32 (take 9 (drop 11 (recordNumbers r))) ≡ r .chad
   unfolding recordNumbers
   chad-back = ap (map signed32) (take-at chad _ 9 chad-nine) ∙ signeds-back (r .chad) (h .chad .fit)
 
-  columns-back : map signed32 (take 9 (drop 19 (recordNumbers r))) ≡ r .columns
+  columns-back : map signed32 (take 9 (drop 20 (recordNumbers r))) ≡ r .columns
   unfolding recordNumbers
   columns-back =
       ap (λ (l : List ℕ). map signed32 (take 9 l)) (drop-at chad _ 9 chad-nine)
       ∙ ap (map signed32) (take-at columns _ 9 columns-nine)
       ∙ signeds-back (r .columns) (h .columns .fit)
 
-  letters-back : getD (recordNumbers r) 28 0 ≡ r .letters
+  letters-back : getD (recordNumbers r) 29 0 ≡ r .letters
   unfolding recordNumbers
   letters-back =
       ap (λ (l : List ℕ). getD l 18 0) (sym (append-assoc chad columns (r .letters ∷ [])))
@@ -125,6 +127,7 @@ module _ (r : Reading) (h : Held r) where
         curve = r .curve;
         gamma = signed32-twosComplement32 (r .gamma) (h .gamma) j;
         cicp = r .cicp;
+        adapted = r .adapted;
         «white_x» = signed32-twosComplement32 (r .«white_x») (h .white-x) j;
         «white_z» = signed32-twosComplement32 (r .«white_z») (h .white-z) j;
         chad = chad-back j;
@@ -182,6 +185,18 @@ cicp-word (Gamma g) (Primaries v) h = absurd h
 nine-zeros : Nine (replicate 9 (pos 0))
 nine-zeros = record { nine = refl; fit = All-replicate 9 (pos 0) zero-fits }
 
+x-fits : (w : GrayWhite) → GoodWhite (SFits w32) w → SFits w32 (whiteX w)
+x-fits (unadapted x z) h = h .0
+x-fits (adapted m) h = zero-fits
+
+z-fits : (w : GrayWhite) → GoodWhite (SFits w32) w → SFits w32 (whiteZ w)
+z-fits (unadapted x z) h = h .1
+z-fits (adapted m) h = zero-fits
+
+chad-nines : (w : GrayWhite) → GoodWhite (SFits w32) w → Nine (whiteChad w)
+chad-nines (unadapted x z) h = nine-zeros
+chad-nines (adapted m) h = record { nine = h .0; fit = h .1 }
+
 text-long : (t : List ℕ) → length t ≤ maxLetters → length (textArray t) ≡ maxLetters
 text-long t h = simp (length-append, length-replicate) (omega arith)
 
@@ -202,9 +217,9 @@ content-held i (gray g) small h =
       intent = omega arith;
       gamma = gamma-fits (g .curve) (h .curve);
       cicp = lit< tt;
-      white-x = h .white-x;
-      white-z = h .white-z;
-      chad = nine-zeros;
+      white-x = x-fits (g .white) (h .white);
+      white-z = z-fits (g .white) (h .white);
+      chad = chad-nines (g .white) (h .white);
       columns = nine-zeros;
       letters = h .text .short;
     }
@@ -247,6 +262,7 @@ plan-held p v =
       curve = curve-word (numbersOf p .curve);
       gamma = n .gamma;
       cicp = n .cicp;
+      adapted = mark-word (numbersOf p .adapted);
       white-x = n .white-x;
       white-z = n .white-z;
       chad = n .chad;

@@ -12,7 +12,7 @@ ghost use Rattle.profile.specs.Plan.{maxLetters};
 ghost use Rattle.plan_record.specs.PlanRecord.{le32s, recordNumbers, recordSize, planRecord};
 
 // The numbers of the struct, and its bytes.
-const NUMBER_COUNT: usize = 29;
+const NUMBER_COUNT: usize = 30;
 
 pub const RECORD_SIZE: usize = 4 * NUMBER_COUNT + profile::MAX_LETTERS;
 
@@ -44,8 +44,8 @@ fn put_nine(out: &mut [u8], at: usize, values: [i32; 9]) -> usize
 
 // The numbers before `chad`.
 fn put_first(out: &mut [u8], at: usize, plan: Reading) -> usize
-    requires { ⌜ at + 40 ≤ length (now out) ⌝ }
-    ensures { λ r. ⌜ Puts (now (out .entry)) at 40 (le32s (take 10 (recordNumbers plan))) r (now (out .exit)) ⌝ }
+    requires { ⌜ at + 44 ≤ length (now out) ⌝ }
+    ensures { λ r. ⌜ Puts (now (out .entry)) at 44 (le32s (take 11 (recordNumbers plan))) r (now (out .exit)) ⌝ }
 {
     let numbers = [
         plan.kind,
@@ -56,6 +56,7 @@ fn put_first(out: &mut [u8], at: usize, plan: Reading) -> usize
         plan.curve,
         i32_to_bits(plan.gamma),
         plan.cicp,
+        plan.adapted,
         i32_to_bits(plan.white_x),
         i32_to_bits(plan.white_z),
     ];

@@ -16,7 +16,7 @@ use Rattle.color_encoding.specs.declared.RenderingIntent.the-variants.{Perceptu
 use Rattle.xyb_constants.specs.XybNumbers as XybNumbers
 use Rattle.profile.specs.Signatures as Sig
 use Rattle.profile.specs.Elements.{Element, Slot, slot, file, fileLength}
-use Rattle.profile.specs.Plan.{Plan, Content, gray, rgb, xyb, kind}
+use Rattle.profile.specs.Plan.{Plan, GrayWhite, unadapted, adapted, Content, gray, rgb, xyb, kind}
 use Rattle.profile.specs.declared.Kind.{Kind}
 use Rattle.profile.specs.declared.Kind.the-variants.{Gray, Rgb, Xyb}
 use Rattle.profile.specs.TagTypes.{join, mluc, xyz, sf32, curve, cicp, s15Fixed16s}
@@ -45,6 +45,15 @@ xybText i = ascii "XYB_" ++ intentName (valueOr Perceptual (intentFrom i))
 abbrev pub firstElements : List ℕ → List ℤ → List Element
 firstElements t white = tag Sig.desc (mluc t) ∷ tag Sig.cprt (mluc (ascii "CC0")) ∷ tag Sig.wtpt (xyz white) ∷ []
 
+-- `wtpt` of a gray plan, and its `chad`, if its white is adapted (02, order 9)
+abbrev pub whiteNumbers : GrayWhite → List ℤ
+whiteNumbers (unadapted x z) = x ∷ pos 65536 ∷ z ∷ []
+whiteNumbers (adapted m) = D50
+
+abbrev pub chadElement : GrayWhite → List Element
+chadElement (unadapted x z) = []
+chadElement (adapted m) = tag Sig.chad (sf32 m) ∷ []
+
 abbrev pub cicpElement : Curve → Cicp → List Element
 cicpElement c Absent = []
 cicpElement c (Primaries v) = tag Sig.cicp (cicp v c) ∷ []
@@ -57,7 +66,7 @@ colorElements k c =
 
 -- of a plan with this intent
 abbrev pub elementsFor : ℕ → Content → List Element
-elementsFor i (gray g) = firstElements (g .text) (g .white-x ∷ pos 65536 ∷ g .white-z ∷ []) ++ (tag Sig.kTRC (curve (g .curve)) ∷ [])
+elementsFor i (gray g) = firstElements (g .text) (whiteNumbers (g .white)) ++ (chadElement (g .white) ++ (tag Sig.kTRC (curve (g .curve)) ∷ []))
 elementsFor i (rgb g) =
     firstElements (g .text) D50 ++ (tag Sig.chad (sf32 (g .chad)) ∷ (cicpElement (g .curve) (g .cicp) ++ colorElements (g .columns) (g .curve)))
 elementsFor i xyb = firstElements (xybText i) D50 ++ (tag Sig.chad (sf32 XybNumbers.chad) ∷ tag Sig.A2B0 a2b0 ∷ tag Sig.B2A0 b2a0 ∷ [])

@@ -4,7 +4,9 @@ use Prim.Native.Nat.{ℕ}
 use mathlib.Core.List.{List, []}
 use lib.ListN.{replicate}
 use lib.IntN.{ℤ, pos}
-use Rattle.profile.specs.Plan.{Plan, Content, gray, rgb, xyb, plainPlan, withDevice}
+use mathlib.Core.Bool.{Bool, true, false}
+use Rattle.profile.specs.Plan.{Plan, GrayWhite, unadapted, adapted, Content, gray, rgb, xyb, plainPlan, withDevice}
+use Rattle.profile.specs.Shape.{isAdapted}
 use Rattle.profile.specs.declared.Kind.{Kind}
 use Rattle.profile.specs.declared.Kind.the-variants.{Gray, Rgb, Xyb}
 use Rattle.profile.specs.declared.Numbers.{Numbers}
@@ -16,8 +18,16 @@ use Rattle.profile.specs.declared.Cicp.the-variants.{Absent}
 
 -- ---- the plan, without the mark, that numbers and a text make
 
+-- of a gray plan: by X and Z, or, adapted, by the numbers of `chad`
+abbrev pub whiteBy : Bool → ℤ → ℤ → List ℤ → GrayWhite
+whiteBy true x z m = adapted m
+whiteBy false x z m = unadapted x z
+
+abbrev pub whiteOf : Numbers → GrayWhite
+whiteOf p = whiteBy (p .adapted) (p .«white_x») (p .«white_z») (p .chad)
+
 abbrev pub contentBy : Kind → Numbers → List ℕ → Content
-contentBy Gray p t = gray (record { text = t; curve = p .curve; white-x = p .«white_x»; white-z = p .«white_z» })
+contentBy Gray p t = gray (record { text = t; curve = p .curve; white = whiteOf p })
 contentBy Rgb p t = rgb (record { text = t; curve = p .curve; chad = p .chad; columns = p .columns; cicp = p .cicp })
 contentBy Xyb p t = xyb
 
@@ -34,6 +44,7 @@ numbersWith a b p =
       model = b;
       curve = p .curve;
       cicp = p .cicp;
+      adapted = p .adapted;
       «white_x» = p .«white_x»;
       «white_z» = p .«white_z»;
       chad = p .chad;
@@ -42,24 +53,37 @@ numbersWith a b p =
 
 -- ---- the numbers and the text of a plan, at first without maker and model
 
-abbrev nineZeros : List ℤ
+abbrev pub nineZeros : List ℤ
 nineZeros = replicate 9 (pos 0)
 
-abbrev pub grayNumbers : ℕ → Curve → ℤ → ℤ → Numbers
-grayNumbers i c x z =
-    record { kind = Gray; intent = i; maker = 0; model = 0; curve = c; cicp = Absent; «white_x» = x; «white_z» = z; chad = nineZeros; columns = nineZeros }
+abbrev pub grayNumbers : ℕ → Curve → Bool → ℤ → ℤ → List ℤ → Numbers
+grayNumbers i c a x z m =
+    record { kind = Gray; intent = i; maker = 0; model = 0; curve = c; cicp = Absent; adapted = a; «white_x» = x; «white_z» = z; chad = m; columns = nineZeros }
+
+-- X, Z and `chad` of a gray white
+abbrev pub whiteX : GrayWhite → ℤ
+whiteX (unadapted x z) = x
+whiteX (adapted m) = pos 0
+
+abbrev pub whiteZ : GrayWhite → ℤ
+whiteZ (unadapted x z) = z
+whiteZ (adapted m) = pos 0
+
+abbrev pub whiteChad : GrayWhite → List ℤ
+whiteChad (unadapted x z) = nineZeros
+whiteChad (adapted m) = m
 
 abbrev pub rgbNumbers : ℕ → Curve → Cicp → List ℤ → List ℤ → Numbers
 rgbNumbers i c v m k =
-    record { kind = Rgb; intent = i; maker = 0; model = 0; curve = c; cicp = v; «white_x» = pos 0; «white_z» = pos 0; chad = m; columns = k }
+    record { kind = Rgb; intent = i; maker = 0; model = 0; curve = c; cicp = v; adapted = false; «white_x» = pos 0; «white_z» = pos 0; chad = m; columns = k }
 
 -- the first curve stands for none
 abbrev pub xybNumbers : ℕ → Numbers
 xybNumbers i =
-    record { kind = Xyb; intent = i; maker = 0; model = 0; curve = Named BT709; cicp = Absent; «white_x» = pos 0; «white_z» = pos 0; chad = nineZeros; columns = nineZeros }
+    record { kind = Xyb; intent = i; maker = 0; model = 0; curve = Named BT709; cicp = Absent; adapted = false; «white_x» = pos 0; «white_z» = pos 0; chad = nineZeros; columns = nineZeros }
 
 abbrev pub numbersFor : ℕ → Content → Numbers
-numbersFor i (gray g) = grayNumbers i (g .curve) (g .white-x) (g .white-z)
+numbersFor i (gray g) = let w = g .white in grayNumbers i (g .curve) (isAdapted w) (whiteX w) (whiteZ w) (whiteChad w)
 numbersFor i (rgb g) = rgbNumbers i (g .curve) (g .cicp) (g .chad) (g .columns)
 numbersFor i xyb = xybNumbers i
 

@@ -20,12 +20,17 @@ use Rattle.profile.specs.declared.Curve.the-variants.{Named, Gamma}
 use Rattle.profile.specs.declared.Cicp.{Cicp}
 use Rattle.profile.specs.declared.Cicp.the-variants.{Absent, Primaries}
 
+-- the white of a gray plan (02, order 9)
+pub data GrayWhite : Type 0 where
+  -- its own, X and Z; Y is 65536
+  unadapted : ℤ → ℤ → GrayWhite
+  -- adapted to D50: the nine numbers of `chad`, by rows
+  adapted : List ℤ → GrayWhite
+
 pub record GrayContent : Type 0 where
   pub text : List ℕ
   pub curve : Curve
-  -- the white's X and Z; its Y is 65536
-  pub white-x : ℤ
-  pub white-z : ℤ
+  pub white : GrayWhite
 
 pub record RgbContent : Type 0 where
   pub text : List ℕ
@@ -98,11 +103,14 @@ GoodCicp c Absent = Unit {0}
 GoodCicp (Named n) (Primaries v) = CicpPrimaries v
 GoodCicp (Gamma g) (Primaries v) = ⊥
 
+abbrev pub GoodWhite : (ℤ → Type 0) → GrayWhite → Type 0
+GoodWhite N (unadapted x z) = N x × N z
+GoodWhite N (adapted m) = (length m ≡ 9) × All N m
+
 pub record GoodGray (N : ℤ → Type 0) (g : GrayContent) : Type 0 where
   pub text : GoodText (g .text)
   pub curve : GoodCurve N (g .curve)
-  pub white-x : N (g .white-x)
-  pub white-z : N (g .white-z)
+  pub white : GoodWhite N (g .white)
 
 pub record GoodRgb (N : ℤ → Type 0) (g : RgbContent) : Type 0 where
   pub text : GoodText (g .text)

@@ -1,12 +1,12 @@
--- The shape of a plan: its kind, the letters of its text, whether its curve is a gamma and whether it has `cicp`. The tag table of a plan
--- is that of its shape (PlanLaws). Assumes nothing.
+-- The shape of a plan: its kind, the letters of its text, whether its curve is a gamma, whether it has `cicp` and whether it is gray with its white adapted
+-- to D50. The tag table of a plan is that of its shape (PlanLaws). Assumes nothing.
 use Prim.Native.Nat.{ℕ, _+_, _*_, _≤_}
 use mathlib.Core.Bool.{Bool, true, false}
 use mathlib.Core.List.{List, [], _∷_, _++_}
 use lib.ListN.{length}
 use Rattle.profile.specs.Signatures as Sig
 use Rattle.profile.specs.Elements.{Slot}
-use Rattle.profile.specs.Plan.{Plan, Content, gray, rgb, xyb, maxLetters}
+use Rattle.profile.specs.Plan.{Plan, GrayWhite, unadapted, adapted, Content, gray, rgb, xyb, maxLetters}
 use Rattle.profile.specs.declared.Kind.{Kind}
 use Rattle.profile.specs.declared.Kind.the-variants.{Gray, Rgb, Xyb}
 use Rattle.profile.specs.declared.Shape.{Shape}
@@ -23,16 +23,20 @@ abbrev pub hasCicp : Cicp → Bool
 hasCicp Absent = false
 hasCicp (Primaries v) = true
 
+abbrev pub isAdapted : GrayWhite → Bool
+isAdapted (unadapted x z) = false
+isAdapted (adapted m) = true
+
 -- the letters of an XYB plan's text: `XYB_` and the three of its intent's name
 abbrev pub xybLetters : ℕ
 xybLetters = 7
 
 abbrev pub xybShape : Shape
-xybShape = record { kind = Xyb; letters = xybLetters; gamma = false; cicp = false }
+xybShape = record { kind = Xyb; letters = xybLetters; gamma = false; cicp = false; adapted = false }
 
 abbrev pub shapeOf : Content → Shape
-shapeOf (gray g) = record { kind = Gray; letters = length (g .text); gamma = isGamma (g .curve); cicp = false }
-shapeOf (rgb g) = record { kind = Rgb; letters = length (g .text); gamma = isGamma (g .curve); cicp = hasCicp (g .cicp) }
+shapeOf (gray g) = record { kind = Gray; letters = length (g .text); gamma = isGamma (g .curve); cicp = false; adapted = isAdapted (g .white) }
+shapeOf (rgb g) = record { kind = Rgb; letters = length (g .text); gamma = isGamma (g .curve); cicp = hasCicp (g .cicp); adapted = false }
 shapeOf xyb = xybShape
 
 abbrev pub shape : Plan → Shape
@@ -96,6 +100,11 @@ abbrev pub cicpSlot : Bool → List Slot
 cicpSlot true = one Sig.cicp cicpSize ∷ []
 cicpSlot false = []
 
+-- of gray
+abbrev pub chadSlot : Bool → List Slot
+chadSlot true = one Sig.chad chadSize ∷ []
+chadSlot false = []
+
 -- the columns of an RGB profile and its one curve, of n bytes
 abbrev pub colorSlots : ℕ → List Slot
 colorSlots n = one Sig.rXYZ xyzSize ∷ one Sig.gXYZ xyzSize ∷ one Sig.bXYZ xyzSize ∷ sized (Sig.rTRC ∷ Sig.gTRC ∷ Sig.bTRC ∷ []) n ∷ []
@@ -105,7 +114,7 @@ abbrev pub firstSlots : ℕ → List Slot
 firstSlots n = one Sig.desc (mlucSize n) ∷ one Sig.cprt (mlucSize 3) ∷ one Sig.wtpt xyzSize ∷ []
 
 abbrev pub slotsFor : Kind → Shape → List Slot
-slotsFor Gray s = firstSlots (s .letters) ++ (one Sig.kTRC (curveSize (s .gamma)) ∷ [])
+slotsFor Gray s = firstSlots (s .letters) ++ (chadSlot (s .adapted) ++ (one Sig.kTRC (curveSize (s .gamma)) ∷ []))
 slotsFor Rgb s = firstSlots (s .letters) ++ (one Sig.chad chadSize ∷ (cicpSlot (s .cicp) ++ colorSlots (curveSize (s .gamma))))
 slotsFor Xyb s = firstSlots xybLetters ++ (one Sig.chad chadSize ∷ one Sig.A2B0 a2b0Size ∷ one Sig.B2A0 b2a0Size ∷ [])
 

@@ -35,13 +35,14 @@ pub enum Kind {
     Xyb,
 }
 
-// The shape of a plan, which its tag table and its length show: the letters of its text, whether its curve is a gamma and whether it has
-// `cicp`.
+// The shape of a plan, which its tag table and its length show: the letters of its text, whether its curve is a gamma, whether it has
+// `cicp` and whether it is gray with its white adapted to D50.
 pub struct Shape {
     pub kind: Kind,
     pub letters: usize,
     pub gamma: bool,
     pub cicp: bool,
+    pub adapted: bool,
 }
 
 // A named curve: its five numbers are those of function type 3.
@@ -65,7 +66,7 @@ pub enum Cicp {
 }
 
 // A plan but for its text, which is lent beside it. Where a kind has no such number the field is zero, or the first curve. Maker and model are four
-// bytes each, the first the most significant.
+// bytes each, the first the most significant. Gray has X and Z of its white or, where this is adapted to D50, `chad`.
 pub struct Numbers {
     pub kind: Kind,
     pub intent: u32,
@@ -73,6 +74,7 @@ pub struct Numbers {
     pub model: u32,
     pub curve: Curve,
     pub cicp: Cicp,
+    pub adapted: bool,
     pub white_x: i32,
     pub white_z: i32,
     pub chad: [i32; 9],
@@ -81,8 +83,15 @@ pub struct Numbers {
 
 // ---- the numbers of each kind, at first without maker and model
 
-pub fn gray_numbers(intent: u32, curve: Curve, white_x: i32, white_z: i32) -> Numbers
-    ensures { λ r. ⌜ r ≡ Plans.grayNumbers intent curve «white_x» «white_z» ⌝ }
+pub fn gray_numbers(
+    intent: u32,
+    curve: Curve,
+    adapted: bool,
+    white_x: i32,
+    white_z: i32,
+    chad: [i32; 9],
+) -> Numbers
+    ensures { λ r. ⌜ r ≡ Plans.grayNumbers intent curve adapted «white_x» «white_z» chad ⌝ }
 {
     Numbers {
         kind: Kind::Gray,
@@ -91,9 +100,10 @@ pub fn gray_numbers(intent: u32, curve: Curve, white_x: i32, white_z: i32) -> Nu
         model: 0,
         curve,
         cicp: Cicp::Absent,
+        adapted,
         white_x,
         white_z,
-        chad: [0; 9],
+        chad,
         columns: [0; 9],
     }
 }
@@ -114,6 +124,7 @@ pub fn rgb_numbers(
         model: 0,
         curve,
         cicp,
+        adapted: false,
         white_x: 0,
         white_z: 0,
         chad,
@@ -131,6 +142,7 @@ pub fn xyb_numbers(intent: u32) -> Numbers
         model: 0,
         curve: Curve::Named(CurveName::BT709),
         cicp: Cicp::Absent,
+        adapted: false,
         white_x: 0,
         white_z: 0,
         chad: [0; 9],
@@ -191,18 +203,21 @@ pub fn shape_of(plan: Numbers, letters: usize) -> Shape
             letters,
             gamma: is_gamma(curve),
             cicp: false,
+            adapted: plan.adapted,
         },
         Kind::Rgb => Shape {
             kind: Kind::Rgb,
             letters,
             gamma: is_gamma(curve),
             cicp: has_cicp(cicp),
+            adapted: false,
         },
         Kind::Xyb => Shape {
             kind: Kind::Xyb,
             letters: XYB_LETTERS,
             gamma: false,
             cicp: false,
+            adapted: false,
         },
     }
 }

@@ -17,7 +17,7 @@ use Rattle.profile.specs.declared.Kind.the-variants.{Gray, Rgb, Xyb}
 use Rattle.profile.specs.PlanLaws.{good-nines, slots-shape}
 use Rattle.profile.specs.Layout.{elements, withId, computedId, layout}
 use Rattle.profile.specs.LayoutLaws.{length-idFor, any-id, layout-computed, layout-marked}
-use Rattle.profile.specs.Shape.{shape, slotsFor, slotsOf, one, sized, mlucSize, curveSize, cicpSlot}
+use Rattle.profile.specs.Shape.{shape, slotsFor, slotsOf, one, sized, mlucSize, curveSize, chadSlot, cicpSlot}
 use Rattle.profile.specs.declared.Shape.{Shape}
 use Rattle.reader_spec.specs.Exists.{Exists}
 use Rattle.reader_spec.specs.FileLaws.{fours, small, header-128, varying-withId, computed-exists, marked-exists}
@@ -82,11 +82,15 @@ cicp-held : (v : Bool) (ss : List Slot) → All NonEmpty ss → All NonEmpty (ci
 cicp-held true ss h = more (held-one _ 12 (omega arith)) h
 cicp-held false ss h = h
 
+chad-held : (a : Bool) (ss : List Slot) → All NonEmpty ss → All NonEmpty (chadSlot a ++ ss)
+chad-held true ss h = more (held-one _ 44 (omega arith)) h
+chad-held false ss h = h
+
 -- every element of a plan holds something, under some signature
 all-held : (k : Kind) (s : Shape) → All NonEmpty (slotsFor k s)
 all-held Gray s =
     more (held-one _ (mlucSize (s .letters)) (omega arith)) (more (held-one _ 34 (omega arith))
-    (more (held-one _ 20 (omega arith)) (more (held-one _ (curveSize (s .gamma)) (curve-holds (s .gamma))) none)))
+    (more (held-one _ 20 (omega arith)) (chad-held (s .adapted) _ (more (held-one _ (curveSize (s .gamma)) (curve-holds (s .gamma))) none))))
 all-held Rgb s =
     more (held-one _ (mlucSize (s .letters)) (omega arith)) (more (held-one _ 34 (omega arith)) (more (held-one _ 20 (omega arith)) (more (held-one _ 44 (omega arith))
     (cicp-held (s .cicp) _ (more (held-one _ 20 (omega arith)) (more (held-one _ 20 (omega arith)) (more (held-one _ 20 (omega arith))

@@ -17,12 +17,12 @@ use Rattle.buffer.specs.AsciiLaws.{ascii-if, ascii-of}
 use Rattle.buffer.specs.BoolLaws.{true≢false, both, both-left, both-right}
 use Rattle.words.specs.WordsLaws.{bytes-drop, number-fits}
 use Rattle.profile.specs.Elements.{Entry, start, table, body, bodySize, fileLength, entries, padding}
-use Rattle.profile.specs.Plan.{Plan, Content, gray, rgb, xyb, kind, maxLetters, GoodText, GoodCicp, GoodContent, Wide}
+use Rattle.profile.specs.Plan.{Plan, Content, gray, rgb, xyb, kind, maxLetters, GoodText, GoodWhite, GoodCicp, GoodContent, Wide}
 use Rattle.profile.specs.PlanLaws.{plan-of-numbers, good-nines, slots-shape}
 use Rattle.profile.specs.Numbers.{planOf, numbersWith, numbersFor, textFor}
 use Rattle.profile.specs.Layout.{elements, slots, profileId, layout}
 use Rattle.profile.specs.LayoutLaws.{length-idFor}
-use Rattle.profile.specs.Shape.{isGamma, hasCicp, shapeOf, shape, slotsFor, slotsOf, mlucSize, NotBoth}
+use Rattle.profile.specs.Shape.{isGamma, hasCicp, isAdapted, shapeOf, shape, slotsFor, slotsOf, mlucSize, NotBoth}
 use Rattle.profile.specs.declared.Kind.{Kind}
 use Rattle.profile.specs.declared.Kind.the-variants.{Gray, Rgb, Xyb}
 use Rattle.profile.specs.declared.Shape.{Shape}
@@ -51,16 +51,22 @@ cicp-in : (v : Bool) (b : List ℕ) → hasCicp (PlanIn.cicpIn v b) ≡ v
 cicp-in true b = refl
 cicp-in false b = refl
 
+adapted-in : (a : Bool) (e : ℕ → List ℕ) → isAdapted (PlanIn.whiteIn a e) ≡ a
+adapted-in true e = refl
+adapted-in false e = refl
+
 -- its letters are as many as the shape says
 abbrev Letters : Kind → Shape → (ℕ → List ℕ) → Type 0
 Letters k s e = let n = PlanIn.freeLetters k (s .letters) in length (PlanIn.textIn n (e 0)) ≡ n
 
 shape-of-content : (k : Kind) (es : List Entry) (e : ℕ → List ℕ) → let s = PlanIn.shapeFrom k es in Letters k s e → shapeOf (PlanIn.contentFrom k s e) ≡ s
 unfolding PlanIn.contentFrom PlanIn.shapeFrom
-shape-of-content Gray es e h = λ j. record { kind = Gray; letters = h j; gamma = gamma-in (PlanIn.shapeFrom Gray es .gamma) (e 3) j; cicp = false }
+shape-of-content Gray es e h =
+    let s = PlanIn.shapeFrom Gray es in
+    λ j. record { kind = Gray; letters = h j; gamma = gamma-in (s .gamma) (e (PlanIn.grayCurveLine (s .adapted))) j; cicp = false; adapted = adapted-in (s .adapted) e j }
 shape-of-content Rgb es e h =
     let s = PlanIn.shapeFrom Rgb es in
-    λ j. record { kind = Rgb; letters = h j; gamma = gamma-in (s .gamma) (e (PlanIn.redLine (s .cicp) + 3)) j; cicp = cicp-in (s .cicp) (e 4) j }
+    λ j. record { kind = Rgb; letters = h j; gamma = gamma-in (s .gamma) (e (PlanIn.redLine (s .cicp) + 3)) j; cicp = cicp-in (s .cicp) (e 4) j; adapted = false }
 shape-of-content Xyb es e h = refl
 
 -- ---- the text lies within the file
@@ -105,16 +111,21 @@ good-text n t p q h e = record { some-letter = rw h p; short = rw h q; ascii = a
 
 module _ (s : Shape) (e : ℕ → List ℕ) (bytes : (i : ℕ) → Bytes (e i)) (some-letter : 1 ≤ s .letters) (short : s .letters ≤ maxLetters)
     (pair : NotBoth (s .cicp) (s .gamma)) where
+  good-white : (a : Bool) → GoodWhite (SFits w32) (PlanIn.whiteIn a e)
+  unfolding PlanIn.numbersFrom
+  good-white true = (refl, numbers-fit 9 (drop 8 (e 3)) (bytes-drop 8 (e 3) (bytes 3)))
+  good-white false = (number-fits (drop 8 (e 2)) (bytes-drop 8 (e 2) (bytes 2)), number-fits (drop 16 (e 2)) (bytes-drop 16 (e 2) (bytes 2)))
+
   good-content : (k : Kind) (a b i : ℕ) → Letters k s e
       → lettersAndCicpGood (numbersWith a b (numbersFor i (PlanIn.contentFrom k s e))) (textFor (PlanIn.contentFrom k s e)) ≡ true
       → GoodContent (SFits w32) (PlanIn.contentFrom k s e)
   unfolding PlanIn.contentFrom PlanIn.numbersFrom lettersAndCicpGood
   good-content Gray a b i n h =
+      let line : ℕ = PlanIn.grayCurveLine (s .adapted) in
       record {
         text = good-text (s .letters) _ some-letter short n (both-left (isAscii (PlanIn.textIn (s .letters) (e 0))) _ h);
-        curve = curve-fits (s .gamma) (e 3) (bytes 3);
-        white-x = number-fits (drop 8 (e 2)) (bytes-drop 8 (e 2) (bytes 2));
-        white-z = number-fits (drop 16 (e 2)) (bytes-drop 16 (e 2) (bytes 2));
+        curve = curve-fits (s .gamma) (e line) (bytes line);
+        white = good-white (s .adapted);
       }
   good-content Rgb a b i n h =
       let red : ℕ = PlanIn.redLine (s .cicp) in

@@ -13,7 +13,7 @@ use mir.Val.{SFits}
 use Rattle.buffer.specs.All.{All, none, more}
 use Rattle.profile.specs.Elements.{table, body, fileLength}
 use Rattle.profile.specs.Plan
-use Rattle.profile.specs.Plan.{gray, rgb, xyb}
+use Rattle.profile.specs.Plan.{unadapted, adapted, gray, rgb, xyb}
 use Rattle.profile.specs.declared.Kind.{Kind}
 use Rattle.profile.specs.Layout.{elements, slots}
 use Rattle.profile.specs.Shape.{slotsOf, NotBoth, GoodShape}
@@ -72,10 +72,14 @@ module _ (N : ℤ → Type 0) (d : (z : ℤ) → Dec (N z)) where
   cicp (Named n) (Primaries v) = primaries v
   cicp (Gamma g) (Primaries v) = no (λ h. h)
 
+  white : (w : Plan.GrayWhite) → Dec (Plan.GoodWhite N w)
+  white (unadapted x z) = both (d x) (d z)
+  white (adapted m) = both (ℕ-discrete (length m) 9) (each N d m)
+
   pub content : (c : Plan.Content) → Dec (Plan.GoodContent N c)
   content (gray g) =
-      map-dec (λ h. record { text = h .0 .0; curve = h .0 .1; white-x = h .1 .0; white-z = h .1 .1 }) (λ h. ((h .text, h .curve), (h .white-x, h .white-z)))
-      (both (both (text (g .text)) (curve (g .curve))) (both (d (g .white-x)) (d (g .white-z))))
+      map-dec (λ h. record { text = h .0 .0; curve = h .0 .1; white = h .1 }) (λ h. ((h .text, h .curve), h .white))
+      (both (both (text (g .text)) (curve (g .curve))) (white (g .white)))
   content (rgb g) =
       map-dec
       (λ h. record { text = h .0 .0; curve = h .0 .1; chad-nine = h .1 .0 .0; chad = h .1 .0 .1; columns-nine = h .1 .1 .0; columns = h .1 .1 .1 .0; cicp = h .1 .1 .1 .1 })

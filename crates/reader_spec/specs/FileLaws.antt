@@ -15,7 +15,7 @@ use Rattle.buffer.specs.Bytes.{zeros, same}
 use Rattle.buffer.specs.All.{All, none, more}
 use Rattle.profile.specs.Elements.{start, tagCount, table, entries, body, file, fileLength}
 use Rattle.profile.specs.ElementsLaws.{Fours}
-use Rattle.profile.specs.Plan.{Plan, Content, gray, rgb, xyb, plainPlan, withDevice, withMark, kind, FourBytes, GoodCurve, GoodContent, Good, InRange, Valid, Wide}
+use Rattle.profile.specs.Plan.{Plan, GrayWhite, unadapted, adapted, Content, gray, rgb, xyb, plainPlan, withDevice, withMark, kind, FourBytes, GoodCurve, GoodWhite, GoodContent, Good, InRange, Valid, Wide}
 use Rattle.profile.specs.declared.Kind.{Kind}
 use Rattle.profile.specs.declared.Kind.the-variants.{Gray, Rgb, Xyb}
 use Rattle.profile.specs.PlanLaws.{good-nines, slots-shape}
@@ -222,9 +222,13 @@ module _ (M N : ℤ → Type 0) (f : (z : ℤ) → M z → N z) where
   curve-weaken (Named n) h = h
   curve-weaken (Gamma g) h = f g h
 
+  white-weaken : (w : GrayWhite) → GoodWhite M w → GoodWhite N w
+  white-weaken (unadapted x z) h = (f x (h .0), f z (h .1))
+  white-weaken (adapted m) h = (h .0, All-weaken f (h .1))
+
   content-weaken : (c : Content) → GoodContent M c → GoodContent N c
   content-weaken (gray g) h =
-      record { text = h .text; curve = curve-weaken (g .curve) (h .curve); white-x = f (g .white-x) (h .white-x); white-z = f (g .white-z) (h .white-z) }
+      record { text = h .text; curve = curve-weaken (g .curve) (h .curve); white = white-weaken (g .white) (h .white) }
   content-weaken (rgb g) h =
       record {
         text = h .text;

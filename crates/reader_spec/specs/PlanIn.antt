@@ -8,7 +8,7 @@ use lib.ListN.{length, take, drop, getD}
 use Rattle.words.specs.Words.{word32, signed32}
 use Rattle.buffer.specs.Bytes.{same}
 use Rattle.profile.specs.Elements.{Entry}
-use Rattle.profile.specs.Plan.{Plan, Content, gray, rgb, xyb, plainPlan, withDevice}
+use Rattle.profile.specs.Plan.{Plan, GrayWhite, unadapted, adapted, Content, gray, rgb, xyb, plainPlan, withDevice}
 use Rattle.profile.specs.declared.Kind.{Kind}
 use Rattle.profile.specs.declared.Kind.the-variants.{Gray, Rgb, Xyb}
 use Rattle.profile.specs.TagTypes.{parameters}
@@ -49,12 +49,21 @@ cicpTags = 11
 abbrev pub redLine : Bool → ℕ
 redLine cicp = cond cicp 5 4
 
--- the first line is that of `desc`; the curve of gray has the fourth
+-- the number of tags of a gray profile whose white is adapted, and the line of the curve of gray
+abbrev pub adaptedTags : ℕ
+adaptedTags = 5
+
+abbrev pub grayCurveLine : Bool → ℕ
+grayCurveLine a = cond a 4 3
+
+-- the first line is that of `desc`
 unfoldable pub shapeFrom : Kind → List Entry → Shape
-shapeFrom Gray es = record { kind = Gray; letters = lettersFor (sizeAt es 0); gamma = eqb (sizeAt es 3) (curveSize true); cicp = false }
+shapeFrom Gray es =
+    let a = eqb (length es) adaptedTags in
+    record { kind = Gray; letters = lettersFor (sizeAt es 0); gamma = eqb (sizeAt es (grayCurveLine a)) (curveSize true); cicp = false; adapted = a }
 shapeFrom Rgb es =
     let v = eqb (length es) cicpTags in
-    record { kind = Rgb; letters = lettersFor (sizeAt es 0); gamma = eqb (sizeAt es (redLine v + 3)) (curveSize true); cicp = v }
+    record { kind = Rgb; letters = lettersFor (sizeAt es 0); gamma = eqb (sizeAt es (redLine v + 3)) (curveSize true); cicp = v; adapted = false }
 shapeFrom Xyb es = xybShape
 
 unfoldable pub shapeIn : List ℕ → Shape
@@ -108,13 +117,17 @@ cicpIn false b = Absent
 abbrev pub columnsIn : (ℕ → List ℕ) → ℕ → List ℤ
 columnsIn e i = numbersIn 3 (e i) ++ (numbersIn 3 (e (i + 1)) ++ numbersIn 3 (e (i + 2)))
 
+-- the white of gray: X and Z of `wtpt`, or, adapted, `chad`
+abbrev pub whiteIn : Bool → (ℕ → List ℕ) → GrayWhite
+whiteIn true e = adapted (numbersIn 9 (e 3))
+whiteIn false e = unadapted (numberIn (drop 8 (e 2))) (numberIn (drop 16 (e 2)))
+
 unfoldable pub contentFrom : Kind → Shape → (ℕ → List ℕ) → Content
 contentFrom Gray s e =
     gray (record {
       text = textIn (s .letters) (e 0);
-      curve = curveIn (s .gamma) (e 3);
-      white-x = numberIn (drop 8 (e 2));
-      white-z = numberIn (drop 16 (e 2));
+      curve = curveIn (s .gamma) (e (grayCurveLine (s .adapted)));
+      white = whiteIn (s .adapted) e;
     })
 contentFrom Rgb s e =
     let red = redLine (s .cicp) in

@@ -17,7 +17,7 @@ use Rattle.buffer.specs.All.{All, none, more}
 use Rattle.buffer.specs.AllLaws.{All-take, All-drop}
 use Rattle.profile.specs.Signatures as Sig
 use Rattle.profile.specs.Elements.{Entry, Element, entries, body}
-use Rattle.profile.specs.Plan.{GrayContent, RgbContent, Content, gray, rgb, xyb, kindOf, GoodCurve, GoodGray, GoodRgb, GoodContent}
+use Rattle.profile.specs.Plan.{GrayContent, GrayWhite, unadapted, adapted, RgbContent, Content, gray, rgb, xyb, kindOf, GoodCurve, GoodGray, GoodRgb, GoodContent}
 use Rattle.profile.specs.Numbers.{numbersWith, numbersFor, numbersOf, textFor, textOf}
 use Rattle.profile.specs.declared.Kind.{Kind}
 use Rattle.profile.specs.declared.Kind.the-variants.{Gray, Rgb, Xyb}
@@ -25,7 +25,7 @@ use Rattle.profile.specs.TagTypes
 use Rattle.profile.specs.TagTypes.{join}
 use Rattle.profile.specs.TagTypesLaws.{length-utf16}
 use Rattle.profile.specs.Layout.{elementsFor}
-use Rattle.profile.specs.Shape.{isGamma, hasCicp, shapeOf, slotsOf, mlucSize}
+use Rattle.profile.specs.Shape.{isGamma, hasCicp, isAdapted, shapeOf, slotsOf, mlucSize}
 use Rattle.profile.specs.declared.Shape.{Shape}
 use Rattle.profile.specs.declared.CurveName.{CurveName}
 use Rattle.profile.specs.declared.CurveName.the-variants as Name
@@ -152,22 +152,23 @@ elementOf es f i = getD (tails es) i f
 first-of : {A : Type 0} (read : List ℕ → A) (e : Element) (es : List Element) {a : A} → ((r : List ℕ) → read (e .bytes ++ r) ≡ a) → read (body (e ∷ es)) ≡ a
 first-of read e es h = ap read (body-front e es) ∙ h _
 
-gray-back : (i : ℕ) (g : GrayContent) (f : List ℕ) → GoodGray (SFits w32) g
-    → PlanIn.contentFrom Gray (shapeOf (gray g)) (elementOf (elementsFor i (gray g)) f) ≡ gray g
+abbrev grayContent : List ℕ → Curve → GrayWhite → GrayContent
+grayContent t c w = record { text = t; curve = c; white = w }
+
+gray-back : (i : ℕ) (t : List ℕ) (c : Curve) (w : GrayWhite) (f : List ℕ)
+    → let g = grayContent t c w in GoodGray (SFits w32) g → PlanIn.contentFrom Gray (shapeOf (gray g)) (elementOf (elementsFor i (gray g)) f) ≡ gray g
 unfolding PlanIn.contentFrom tails
-gray-back i g f h = λ j. gray (record { text = t j; curve = c j; white-x = x j; white-z = z j })
-  where
-    t : PlanIn.textIn (length (g .text)) (elementOf (elementsFor i (gray g)) f 0) ≡ g .text
-    t = first-of (PlanIn.textIn (length (g .text))) _ _ (text-back (g .text))
-
-    c : PlanIn.curveIn (isGamma (g .curve)) (elementOf (elementsFor i (gray g)) f 3) ≡ g .curve
-    c = first-of (PlanIn.curveIn (isGamma (g .curve))) _ _ (λ r. curve-back (g .curve) r (h .curve))
-
-    x : PlanIn.numberIn (drop 8 (elementOf (elementsFor i (gray g)) f 2)) ≡ g .white-x
-    x = first-of (λ b. PlanIn.numberIn (drop 8 b)) _ _ (λ r. x-back (g .white-x) (pos 65536) (g .white-z) r (h .white-x))
-
-    z : PlanIn.numberIn (drop 16 (elementOf (elementsFor i (gray g)) f 2)) ≡ g .white-z
-    z = first-of (λ b. PlanIn.numberIn (drop 16 b)) _ _ (λ r. z-back (g .white-x) (pos 65536) (g .white-z) r (h .white-z))
+gray-back i t c (unadapted x z) f h =
+    let text = first-of (PlanIn.textIn (length t)) _ _ (text-back t) in
+    let curve = first-of (PlanIn.curveIn (isGamma c)) _ _ (λ r. curve-back c r (h .curve)) in
+    let x-is = first-of (λ b. PlanIn.numberIn (drop 8 b)) _ _ (λ r. x-back x (pos 65536) z r (h .white .0)) in
+    let z-is = first-of (λ b. PlanIn.numberIn (drop 16 b)) _ _ (λ r. z-back x (pos 65536) z r (h .white .1)) in
+    λ j. gray (grayContent (text j) (curve j) (unadapted (x-is j) (z-is j)))
+gray-back i t c (adapted m) f h =
+    let text = first-of (PlanIn.textIn (length t)) _ _ (text-back t) in
+    let curve = first-of (PlanIn.curveIn (isGamma c)) _ _ (λ r. curve-back c r (h .curve)) in
+    let chad = first-of (PlanIn.numbersIn 9) _ _ (λ r. sf32-back 9 m r (h .white .0) (h .white .1)) in
+    λ j. gray (grayContent (text j) (curve j) (adapted (chad j)))
 
 thirds : (k : List ℤ) → take 3 k ++ (take 3 (drop 3 k) ++ drop 6 k) ≡ k
 thirds k = rw (← drop-drop 3 3 k, take-append-drop 3 (drop 3 k)) (take-append-drop 3 k)
@@ -218,7 +219,7 @@ rgb-back i t c m k (Primaries v) f h =
 pub content-back : (i : ℕ) (c : Content) (f : List ℕ) → GoodContent (SFits w32) c
     → PlanIn.contentFrom (shapeOf c .kind) (shapeOf c) (elementOf (elementsFor i c) f) ≡ c
 unfolding PlanIn.contentFrom
-content-back i (gray g) f h = gray-back i g f h
+content-back i (gray g) f h = gray-back i (g .text) (g .curve) (g .white) f h
 content-back i (rgb g) f h = rgb-back i (g .text) (g .curve) (g .chad) (g .columns) (g .cicp) f h
 content-back i xyb f h = refl
 
@@ -235,12 +236,14 @@ halved : (n : ℕ) → PlanIn.lettersFor (mlucSize n) ≡ n
 halved n = omega arith
 
 module _ (at n : ℕ) where
-  gray-shape : (g : Bool) → let s : Shape = record { kind = Gray; letters = n; gamma = g; cicp = false } in PlanIn.shapeFrom Gray (entries at (slotsOf s)) ≡ s
+  gray-shape : (g a : Bool) → let s : Shape = record { kind = Gray; letters = n; gamma = g; cicp = false; adapted = a } in PlanIn.shapeFrom Gray (entries at (slotsOf s)) ≡ s
   unfolding PlanIn.shapeFrom entries slotsOf
-  gray-shape true = simp halved
-  gray-shape false = simp halved
+  gray-shape true true = simp halved
+  gray-shape true false = simp halved
+  gray-shape false true = simp halved
+  gray-shape false false = simp halved
 
-  rgb-shape : (g v : Bool) → let s : Shape = record { kind = Rgb; letters = n; gamma = g; cicp = v } in PlanIn.shapeFrom Rgb (entries at (slotsOf s)) ≡ s
+  rgb-shape : (g v : Bool) → let s : Shape = record { kind = Rgb; letters = n; gamma = g; cicp = v; adapted = false } in PlanIn.shapeFrom Rgb (entries at (slotsOf s)) ≡ s
   unfolding PlanIn.shapeFrom entries slotsOf
   rgb-shape true true = simp halved
   rgb-shape true false = simp halved
@@ -249,7 +252,7 @@ module _ (at n : ℕ) where
 
 pub shape-back : (at : ℕ) (c : Content) → PlanIn.shapeFrom (kindOf c) (entries at (slotsOf (shapeOf c))) ≡ shapeOf c
 unfolding PlanIn.shapeFrom
-shape-back at (gray g) = gray-shape at (length (g .text)) (isGamma (g .curve))
+shape-back at (gray g) = gray-shape at (length (g .text)) (isGamma (g .curve)) (isAdapted (g .white))
 shape-back at (rgb g) = rgb-shape at (length (g .text)) (isGamma (g .curve)) (hasCicp (g .cicp))
 shape-back at xyb = refl
 

@@ -7,7 +7,7 @@ use native.Mathlib.Omega.{arith}
 use lib.IntN.{pos}
 use lib.ListN.{replicate, length-replicate}
 use Rattle.buffer.specs.AllLaws.{All-replicate}
-use Rattle.profile.specs.Plan.{maxLetters, Plan, Content, gray, rgb, xyb, plainPlan, kindOf, GoodText, GoodCurve, GoodCicp, GoodContent, InRange, Valid}
+use Rattle.profile.specs.Plan.{maxLetters, Plan, GrayWhite, unadapted, adapted, GoodWhite, Content, gray, rgb, xyb, plainPlan, kindOf, GoodText, GoodCurve, GoodCicp, GoodContent, InRange, Valid}
 use Rattle.profile.specs.declared.Kind.{Kind}
 use Rattle.profile.specs.declared.Kind.the-variants.{Gray, Rgb, Xyb}
 use Rattle.profile.specs.PlanLaws.{good-nines, slots-shape}
@@ -28,15 +28,19 @@ abbrev cicpFor : Bool → Cicp
 cicpFor true = Primaries 1
 cicpFor false = Absent
 
-abbrev contentFor : Kind → ℕ → Bool → Bool → Content
-contentFor Gray n g v = gray (record { text = replicate n 65; curve = curveFor g; white-x = pos 0; white-z = pos 0 })
-contentFor Rgb n g v =
+abbrev whiteFor : Bool → GrayWhite
+whiteFor true = adapted (replicate 9 (pos 0))
+whiteFor false = unadapted (pos 0) (pos 0)
+
+abbrev contentFor : Kind → ℕ → Bool → Bool → Bool → Content
+contentFor Gray n g v a = gray (record { text = replicate n 65; curve = curveFor g; white = whiteFor a })
+contentFor Rgb n g v a =
     rgb (record { text = replicate n 65; curve = curveFor g; chad = replicate 9 (pos 0); columns = replicate 9 (pos 0); cicp = cicpFor v })
-contentFor Xyb n g v = xyb
+contentFor Xyb n g v a = xyb
 
 -- a text of A's, every number zero
 abbrev pub plain : Shape → Plan
-plain s = plainPlan 0 (contentFor (s .kind) (s .letters) (s .gamma) (s .cicp))
+plain s = plainPlan 0 (contentFor (s .kind) (s .letters) (s .gamma) (s .cicp) (s .adapted))
 
 good-text : (n : ℕ) → 1 ≤ n → n ≤ maxLetters → GoodText (replicate n 65)
 good-text n p q = record { some-letter = rw length-replicate p; short = rw length-replicate q; ascii = All-replicate n 65 (omega arith) }
@@ -53,9 +57,13 @@ good-cicp true true r = r
 good-cicp false true r = inl refl
 good-cicp g false r = tt
 
-good-content : (k : Kind) (n : ℕ) (g v : Bool) → 1 ≤ n → n ≤ maxLetters → NotBoth v g → GoodContent InRange (contentFor k n g v)
-good-content Gray n g v p q r = record { text = good-text n p q; curve = good-curve g; white-x = zero-in-range; white-z = zero-in-range }
-good-content Rgb n g v p q r =
+good-white : (a : Bool) → GoodWhite InRange (whiteFor a)
+good-white true = (refl, All-replicate 9 (pos 0) zero-in-range)
+good-white false = (zero-in-range, zero-in-range)
+
+good-content : (k : Kind) (n : ℕ) (g v a : Bool) → 1 ≤ n → n ≤ maxLetters → NotBoth v g → GoodContent InRange (contentFor k n g v a)
+good-content Gray n g v a p q r = record { text = good-text n p q; curve = good-curve g; white = good-white a }
+good-content Rgb n g v a p q r =
     record {
       text = good-text n p q;
       curve = good-curve g;
@@ -65,7 +73,7 @@ good-content Rgb n g v p q r =
       columns = All-replicate 9 (pos 0) zero-in-range;
       cicp = good-cicp g v r;
     }
-good-content Xyb n g v p q r = tt
+good-content Xyb n g v a p q r = tt
 
 pub plain-valid : (s : Shape) → GoodShape s → Valid (plain s)
 plain-valid s g =
@@ -73,29 +81,31 @@ plain-valid s g =
       intent = omega arith;
       maker = omega arith;
       model = omega arith;
-      content = good-content (s .kind) (s .letters) (s .gamma) (s .cicp) (g .some-letter) (g .short) (g .pair);
+      content = good-content (s .kind) (s .letters) (s .gamma) (s .cicp) (s .adapted) (g .some-letter) (g .short) (g .pair);
     }
 
-kind-for : (k : Kind) (n : ℕ) (g v : Bool) → kindOf (contentFor k n g v) ≡ k
-kind-for Gray n g v = refl
-kind-for Rgb n g v = refl
-kind-for Xyb n g v = refl
+kind-for : (k : Kind) (n : ℕ) (g v a : Bool) → kindOf (contentFor k n g v a) ≡ k
+kind-for Gray n g v a = refl
+kind-for Rgb n g v a = refl
+kind-for Xyb n g v a = refl
 
 pub plain-kind : (s : Shape) → kindOf (plain s .content) ≡ s .kind
-plain-kind s = kind-for (s .kind) (s .letters) (s .gamma) (s .cicp)
+plain-kind s = kind-for (s .kind) (s .letters) (s .gamma) (s .cicp) (s .adapted)
 
-slots-for : (k : Kind) (n : ℕ) (g v : Bool)
-    → slotsOf (shapeOf (contentFor k n g v)) ≡ slotsOf (record { kind = k; letters = n; gamma = g; cicp = v })
+slots-for : (k : Kind) (n : ℕ) (g v a : Bool)
+    → slotsOf (shapeOf (contentFor k n g v a)) ≡ slotsOf (record { kind = k; letters = n; gamma = g; cicp = v; adapted = a })
 unfolding slotsOf
-slots-for Gray n true v = simp length-replicate
-slots-for Gray n false v = simp length-replicate
-slots-for Rgb n true true = simp length-replicate
-slots-for Rgb n true false = simp length-replicate
-slots-for Rgb n false true = simp length-replicate
-slots-for Rgb n false false = simp length-replicate
-slots-for Xyb n g v = refl
+slots-for Gray n true v true = simp length-replicate
+slots-for Gray n true v false = simp length-replicate
+slots-for Gray n false v true = simp length-replicate
+slots-for Gray n false v false = simp length-replicate
+slots-for Rgb n true true a = simp length-replicate
+slots-for Rgb n true false a = simp length-replicate
+slots-for Rgb n false true a = simp length-replicate
+slots-for Rgb n false false a = simp length-replicate
+slots-for Xyb n g v a = refl
 
 pub plain-slots : (s : Shape) → GoodShape s → slots (plain s) ≡ slotsOf s
 plain-slots s g =
     slots-shape (plain s) (good-nines InRange (plain s .content) (plain-valid s g .content))
-    ∙ slots-for (s .kind) (s .letters) (s .gamma) (s .cicp)
+    ∙ slots-for (s .kind) (s .letters) (s .gamma) (s .cicp) (s .adapted)

@@ -12,8 +12,8 @@ use native.Mathlib.Omega.{arith}
 use Rattle.numbers.specs.Fixed.{largest}
 use Rattle.buffer.specs.All.{All, none, more}
 use Rattle.buffer.specs.BoolLaws.{holds, both, both-left, both-right}
-use Rattle.profile.specs.Plan.{Content, gray, rgb, xyb, InRange, GoodCurve, GoodCicp, GoodContent, CicpPrimaries}
-use Rattle.profile.specs.Numbers.{numbersWith, numbersFor}
+use Rattle.profile.specs.Plan.{GrayWhite, unadapted, adapted, Content, gray, rgb, xyb, InRange, GoodCurve, GoodCicp, GoodWhite, GoodContent, CicpPrimaries}
+use Rattle.profile.specs.Numbers.{numbersWith, whiteX, whiteZ, whiteChad, numbersFor}
 use Rattle.profile.specs.declared.Curve.{Curve}
 use Rattle.profile.specs.declared.Curve.the-variants.{Named, Gamma}
 use Rattle.profile.specs.declared.CurveName.{CurveName}
@@ -98,17 +98,31 @@ zeros-in-range = simp (in-range-of (pos 0) (omega arith))
 zero-in-range : Tests.inRange (pos 0) ≡ true
 zero-in-range = in-range-of (pos 0) (omega arith)
 
+-- X, Z and `chad` of a gray white, of which it has the first two or the third
+pub record WhiteTested (w : GrayWhite) : Type 0 where
+  pub x : Tests.inRange (whiteX w) ≡ true
+  pub z : Tests.inRange (whiteZ w) ≡ true
+  pub chad : Tests.allInRange (whiteChad w) ≡ true
+
+white-in-range-if : (N : ℤ → Type 0) (w : GrayWhite) → GoodWhite N w → WhiteTested w → GoodWhite InRange w
+white-in-range-if N (unadapted x z) h e = (in-range-if x (e .x), in-range-if z (e .z))
+white-in-range-if N (adapted m) h e = (h .0, all-in-range-if m (e .chad))
+
+white-in-range-of : (w : GrayWhite) → GoodWhite InRange w → WhiteTested w
+white-in-range-of (unadapted x z) h = record { x = in-range-of x (h .0); z = in-range-of z (h .1); chad = zeros-in-range }
+white-in-range-of (adapted m) h = record { x = zero-in-range; z = zero-in-range; chad = all-in-range-of (h .1) }
+
 module _ (N : ℤ → Type 0) (a b i : ℕ) where
   pub in-range-content : (c : Content) → GoodContent N c → Tests.numbersInRange (numbersWith a b (numbersFor i c)) ≡ true → GoodContent InRange c
   unfolding Tests.numbersInRange
   in-range-content (gray g) h e =
       let r = both-right (Tests.curveInRange (g .curve)) _ e in
-      let s = both-right (Tests.inRange (g .white-x)) _ r in
+      let s = both-right (Tests.inRange (whiteX (g .white))) _ r in
+      let t = both-right (Tests.inRange (whiteZ (g .white))) _ s in
       record {
         text = h .text;
         curve = curve-in-range-if (g .curve) (both-left _ _ e);
-        white-x = in-range-if (g .white-x) (both-left _ _ r);
-        white-z = in-range-if (g .white-z) (both-left _ _ s);
+        white = white-in-range-if N (g .white) (h .white) (record { x = both-left _ _ r; z = both-left _ _ s; chad = both-left _ _ t });
       }
   in-range-content (rgb g) h e =
       let r = both-right (Tests.curveInRange (g .curve)) _ e in
@@ -127,8 +141,8 @@ module _ (N : ℤ → Type 0) (a b i : ℕ) where
 pub content-in-range : (a b i : ℕ) (c : Content) → GoodContent InRange c → Tests.numbersInRange (numbersWith a b (numbersFor i c)) ≡ true
 unfolding Tests.numbersInRange
 content-in-range a b i (gray g) h =
-    both (curve-in-range-of (g .curve) (h .curve))
-    (both (in-range-of (g .white-x) (h .white-x)) (both (in-range-of (g .white-z) (h .white-z)) (both zeros-in-range zeros-in-range)))
+    let w = white-in-range-of (g .white) (h .white) in
+    both (curve-in-range-of (g .curve) (h .curve)) (both (w .x) (both (w .z) (both (w .chad) zeros-in-range)))
 content-in-range a b i (rgb g) h =
     both (curve-in-range-of (g .curve) (h .curve))
     (both zero-in-range (both zero-in-range (both (all-in-range-of (h .chad)) (all-in-range-of (h .columns)))))

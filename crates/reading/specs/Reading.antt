@@ -1,5 +1,6 @@
 -- The reader's answer by value: 01's number, 0 where the file is accepted, and the plan in numbers, all zero where it is refused. Assumes nothing.
 use Prim.Native.Nat.{ℕ, _-_}
+use mathlib.Core.Bool.{Bool, cond}
 use mathlib.Core.List.{List, _++_}
 use lib.IntN.{ℤ, pos}
 use lib.ListN.{length, replicate}
@@ -44,6 +45,9 @@ abbrev pub cicpNumber : Cicp → ℕ
 cicpNumber Absent = 0
 cicpNumber (Primaries v) = v
 
+abbrev pub adaptedNumber : Bool → ℕ
+adaptedNumber a = cond a 1 0
+
 -- ---- the answer
 
 -- a text in an array
@@ -63,6 +67,7 @@ refusedWith n =
       curve = 0;
       gamma = pos 0;
       cicp = 0;
+      adapted = 0;
       «white_x» = pos 0;
       «white_z» = pos 0;
       chad = replicate 9 (pos 0);
@@ -84,6 +89,7 @@ acceptedWith p m n text =
       curve = curveNumber (p .curve);
       gamma = gammaNumber (p .curve);
       cicp = cicpNumber (p .cicp);
+      adapted = adaptedNumber (p .adapted);
       «white_x» = p .«white_x»;
       «white_z» = p .«white_z»;
       chad = p .chad;

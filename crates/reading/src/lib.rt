@@ -19,6 +19,7 @@ pub struct Reading {
     pub curve: u32,
     pub gamma: i32,
     pub cicp: u32,
+    pub adapted: u32,
     pub white_x: i32,
     pub white_z: i32,
     pub chad: [i32; 9],
@@ -40,6 +41,7 @@ pub fn refused(number: u32) -> Reading
         curve: 0,
         gamma: 0,
         cicp: 0,
+        adapted: 0,
         white_x: 0,
         white_z: 0,
         chad: [0; 9],
@@ -97,6 +99,12 @@ fn cicp_number(cicp: Cicp) -> u32
     }
 }
 
+fn adapted_number(adapted: bool) -> u32
+    ensures { λ r. ⌜ r ≡ Answers.adaptedNumber adapted ⌝ }
+{
+    if adapted { 1 } else { 0 }
+}
+
 // The plan in numbers, with its mark: what is not set stays zero.
 pub fn accepted(
     plan: Numbers,
@@ -120,6 +128,7 @@ pub fn accepted(
     r.curve = curve_number(curve);
     r.gamma = gamma_number(curve);
     r.cicp = cicp_number(cicp);
+    r.adapted = adapted_number(plan.adapted);
     r.white_x = plan.white_x;
     r.white_z = plan.white_z;
     r.chad = chad;

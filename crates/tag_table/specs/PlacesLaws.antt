@@ -47,20 +47,21 @@ some n = omega arith
 tagged : {n : ℕ} {g : List ℕ} {gs : List (List ℕ)} {ss : List Slot} → Named ss → Named (sized (g ∷ gs) n ∷ ss)
 tagged h = more (some _) h
 
-by-kind : (k : Kind) (s : Shape) (v : Bool) → s .cicp ≡ v → Named (slotsFor k s) × (tagCount (slotsFor k s) ≤ maxTags)
+by-kind : (k : Kind) (s : Shape) (v a : Bool) → s .cicp ≡ v → s .adapted ≡ a → Named (slotsFor k s) × (tagCount (slotsFor k s) ≤ maxTags)
 unfolding tagCount
-by-kind Gray s v e = (tagged (tagged (tagged (tagged none))), omega arith)
-by-kind Rgb s true e = rw e (tagged (tagged (tagged (tagged (tagged (tagged (tagged (tagged (tagged none)))))))), omega arith)
-by-kind Rgb s false e = rw e (tagged (tagged (tagged (tagged (tagged (tagged (tagged (tagged none))))))), omega arith)
-by-kind Xyb s v e = (tagged (tagged (tagged (tagged (tagged (tagged none))))), omega arith)
+by-kind Gray s v true e h = rw h (tagged (tagged (tagged (tagged (tagged none)))), omega arith)
+by-kind Gray s v false e h = rw h (tagged (tagged (tagged (tagged none))), omega arith)
+by-kind Rgb s true a e h = rw e (tagged (tagged (tagged (tagged (tagged (tagged (tagged (tagged (tagged none)))))))), omega arith)
+by-kind Rgb s false a e h = rw e (tagged (tagged (tagged (tagged (tagged (tagged (tagged (tagged none))))))), omega arith)
+by-kind Xyb s v a e h = (tagged (tagged (tagged (tagged (tagged (tagged none))))), omega arith)
 
 pub named : (s : Shape) → Named (slotsOf s)
 unfolding slotsOf
-named s = by-kind (s .kind) s (s .cicp) refl .0
+named s = by-kind (s .kind) s (s .cicp) (s .adapted) refl refl .0
 
 few-tags : (s : Shape) → length (tags (slotsOf s)) ≤ maxTags
 unfolding slotsOf
-few-tags s = rw length-tags (by-kind (s .kind) s (s .cicp) refl .1)
+few-tags s = rw length-tags (by-kind (s .kind) s (s .cicp) (s .adapted) refl refl .1)
 
 -- ---- a walk over the tags
 

@@ -135,6 +135,7 @@ fn curve_size(gamma: bool) -> u32
     if gamma { GAMMA_SIZE } else { CURVE_SIZE }
 }
 
+// `chad` stands only where the white is adapted to D50.
 pub fn gray_tags(shape: Shape) -> Tags
     requires { ⌜ shape .letters ≤ maxLetters ⌝ }
     ensures { λ r. ⌜ r ≡ Listing.listed (Listing.tags (Shapes.slotsFor Kind.Gray shape)) ⌝ }
@@ -142,6 +143,26 @@ pub fn gray_tags(shape: Shape) -> Tags
     let none = UNUSED;
     let desc = text(*b"desc", shape.letters);
     let curve = own(*b"kTRC", curve_size(shape.gamma));
+    if shape.adapted {
+        let white = WTPT;
+        let chad = CHAD;
+        return Tags {
+            count: 5,
+            tags: [
+                desc,
+                CPRT,
+                white,
+                chad,
+                curve,
+                none,
+                none,
+                none,
+                none,
+                none,
+                none,
+            ],
+        };
+    }
     Tags {
         count: 4,
         tags: [

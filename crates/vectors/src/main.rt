@@ -9,6 +9,7 @@ use color_encoding::JxlColorEncoding;
 use color_encoding::PrimariesXy;
 use color_encoding::WhiteXy;
 use colorimetry::Conversion;
+use encoding_plan::Encoding;
 use job::JobAnswer;
 use job_output::JobProfile;
 use job_output::MOST_LISTING;
@@ -235,14 +236,20 @@ fn put_plan(out: &mut [u8], single: [u32; 9], chad: [i32; 9], columns: [i32; 9])
     }
 }
 
+// Maker and model, and the two marks.
+fn put_marks(out: &mut [u8], r: Reading) {
+    put_word(&mut *out, 108, r.maker);
+    put_word(&mut *out, 112, r.model);
+    put_word(&mut *out, 116, r.id_not_computed);
+    put_word(out, 120, r.adapted);
+}
+
 // r: a file; the reader's answer. The elements of an accepted file are found; of a refused one none is.
 fn reading(file: &[u8], out: &mut [u8]) -> usize {
     let r = reader::read(file);
     let text = r.text;
-    put_word(&mut *out, 108, r.maker);
-    put_word(&mut *out, 112, r.model);
-    put_word(&mut *out, 116, r.id_not_computed);
-    let end = put(&mut *out, 120, part(&text, 0, r.letters));
+    put_marks(&mut *out, r);
+    let end = put(&mut *out, 124, part(&text, 0, r.letters));
     let chad = r.chad;
     let columns = r.columns;
     put_plan(out, single_numbers(r), chad, columns);
@@ -265,9 +272,9 @@ fn put_text(out: &mut [u8], at: usize, e: JxlColorEncoding) -> usize {
 }
 
 // The length or the refusal, the MD5 of the whole output, and the text. What is written is read, and its elements are found.
-fn written(e: JxlColorEncoding, capacity: usize, out: &mut [u8]) -> usize {
+fn written(encoding: Encoding, capacity: usize, out: &mut [u8]) -> usize {
     let mut space = [UNTOUCHED; 1300];
-    let encoding = encoding_plan::plain_encoding(e);
+    let color = encoding.color;
     let number = match writer::maybe_create_profile(encoding, lent(&mut space, capacity)) {
         Profile::Written {
             length: n,
@@ -276,7 +283,7 @@ fn written(e: JxlColorEncoding, capacity: usize, out: &mut [u8]) -> usize {
         Profile::Refused(k) => k as usize,
     };
     let text = put_number_and_digest(&mut *out, 0, number, part(&space, 0, capacity));
-    let end = put_text(out, text, e);
+    let end = put_text(out, text, color);
     if finds_all(part(&space, 0, number)) {
         end
     } else {
@@ -284,18 +291,28 @@ fn written(e: JxlColorEncoding, capacity: usize, out: &mut [u8]) -> usize {
     }
 }
 
+// The section of gray with the mark "adapted", of which no job knows.
+const ADAPTED: u8 = 4;
+
 // e: a section, the length of the output, and the bytes of an entry of that section.
 fn encoding(input: &[u8], out: &mut [u8]) -> usize {
     let entry = part(input, 5, wrapping_sub_usize(input.len(), 5));
-    let code = match byte_at(input, 0) {
-        1 => job_entry::gray_encoding(entry),
+    let section = byte_at(input, 0);
+    let code = match section {
         2 => job_entry::rgb_encoding(entry),
-        _ => job_entry::xyb_encoding(entry),
+        3 => job_entry::xyb_encoding(entry),
+        _ => job_entry::gray_encoding(entry),
     };
-    match code {
-        EncodingCode::Known(e) => written(e, read_u32_be(input, 1) as usize, out),
-        EncodingCode::Unknown => 0,
-    }
+    let EncodingCode::Known(color) = code else {
+        return 0;
+    };
+    let encoding = Encoding {
+        color,
+        maker: 0,
+        model: 0,
+        adapted: section == ADAPTED,
+    };
+    written(encoding, read_u32_be(input, 1) as usize, out)
 }
 
 // ---- jobs
@@ -564,7 +581,7 @@ fn main() {
     let list = part(&space, 0, n);
     if same_bytes(
         part(list, 0, 54),
-        b"merqyduk vectors, format 4, seed 1, jxl-rs 9b3c1af91e\n",
+        b"merqyduk vectors, format 5, seed 1, jxl-rs 9b3c1af91e\n",
     ) {
         replay(list, 54, &mut tally);
     } else {

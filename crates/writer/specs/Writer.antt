@@ -10,9 +10,7 @@ use Rattle.profile.specs.Plan.{Plan, FourBytes}
 use Rattle.profile.specs.Layout.{layout}
 use Rattle.buffer.specs.Checked.{Checked, is, refused, then}
 use Rattle.numbers.specs.Rounded.{Counted}
-use Rattle.color_encoding.specs.declared.JxlColorEncoding.{JxlColorEncoding}
 use Rattle.text.specs.Held.{HeldEncoding}
-use Rattle.encoding_plan.specs.FixedFloats.{countedPlan}
 use Rattle.encoding_plan.specs.EncodingPlan.{encodingPlan, countedEncodingPlan}
 use Rattle.encoding_plan.specs.declared.Encoding.{Encoding}
 use Rattle.writer.specs.declared.Profile.{Profile}
@@ -64,8 +62,7 @@ pub record Creates (e : Encoding) (before after : List ℕ) (r : Profile) : Type
   pub maker : FourBytes (e .maker)
   pub model : FourBytes (e .model)
 
--- the promise of `profile_length` for the color encoding e: what the writer answers on an output of n bytes, whatever maker and model are (WriterLaws,
--- `any-device`)
-pub record MeasuresProfile (e : JxlColorEncoding) (n : ℕ) (r : Profile) : Type 0 where
-  pub answer : r ≡ answer (countedPlan e) n
-  pub held : HeldEncoding e
+-- the promise of `profile_length` for the encoding e: what the writer answers on an output of n bytes
+pub record MeasuresProfile (e : Encoding) (n : ℕ) (r : Profile) : Type 0 where
+  pub answer : r ≡ answer (countedEncodingPlan e) n
+  pub held : HeldEncoding (e .color)

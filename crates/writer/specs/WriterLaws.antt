@@ -10,27 +10,21 @@ use Rattle.numbers.specs.Rounded.{roundedIn, counted}
 use Rattle.color_encoding.specs.declared.JxlColorEncoding.{JxlColorEncoding}
 use Rattle.profile.specs.Plan.{Plan, withDevice}
 use Rattle.profile.specs.LayoutLaws.{length-device}
-use Rattle.encoding_plan.specs.PlanOf.{planOf}
-use Rattle.encoding_plan.specs.FixedFloats.{fixedFloats, countedPlan}
-use Rattle.encoding_plan.specs.EncodingPlan.{encodingWith, plainEncoding, encodingPlan, countedEncodingPlan}
+use Rattle.encoding_plan.specs.PlanOf.{colorPlan, planOf}
+use Rattle.encoding_plan.specs.FixedFloats.{colorFloats, countedColorPlan, countedPlan}
+use Rattle.encoding_plan.specs.EncodingPlan.{plainEncoding, encodingPlan, countedEncodingPlan}
 use Rattle.encoding_plan.specs.EncodingPlanLaws.{plain-plan, plain-counted}
 use Rattle.encoding_plan.specs.declared.Encoding.{Encoding}
 use Rattle.writer.specs.Writer.{answer, output, tooShort, Creates}
 use Rattle.writer.specs.declared.Profile.{Profile}
 use Rattle.writer.specs.declared.Profile.the-variants.{Written, Refused}
 
-pub any-device : (e : Encoding) (n : ℕ) → answer (countedEncodingPlan e) n ≡ answer (countedPlan (e .color)) n
-any-device e n = go (planOf (e .color))
+pub any-device : (e : Encoding) (n : ℕ) → answer (countedEncodingPlan e) n ≡ answer (countedColorPlan (e .adapted) (e .color)) n
+any-device e n = go (colorPlan (e .adapted) (e .color))
   where
-    go : (c : Checked Plan) → let xs = fixedFloats (e .color) in answer (counted xs (then c (λ p. is (withDevice (e .maker) (e .model) p)))) n ≡ answer (counted xs c) n
-    go (is p) = ap (λ (m : ℕ). cond (leb m n) (Written m (roundedIn (fixedFloats (e .color)))) (Refused tooShort)) (length-device p (e .maker) (e .model))
+    go : (c : Checked Plan) → let xs = colorFloats (e .adapted) (e .color) in answer (counted xs (then c (λ p. is (withDevice (e .maker) (e .model) p)))) n ≡ answer (counted xs c) n
+    go (is p) = ap (λ (m : ℕ). cond (leb m n) (Written m (roundedIn (colorFloats (e .adapted) (e .color)))) (Refused tooShort)) (length-device p (e .maker) (e .model))
     go (refused k) = refl
-
--- the same where the color encoding comes by codes
-pub any-device-coded : (a b : ℕ) (c : Checked JxlColorEncoding) (n : ℕ)
-    → answer (then (then c (λ e. is (encodingWith a b e))) countedEncodingPlan) n ≡ answer (then c countedPlan) n
-any-device-coded a b (is e) n = any-device (encodingWith a b e) n
-any-device-coded a b (refused k) n = refl
 
 -- ---- with zeros it is the plan of the color encoding that is written
 

@@ -12,7 +12,7 @@ ghost use Rattle.profile.specs.Numbers as Plans;
 ghost use Rattle.text.specs.Description.{description};
 ghost use Rattle.text.specs.Held.{WhiteInRange};
 ghost use Rattle.encoding_plan.specs.Answers.{checkedPlan};
-ghost use Rattle.encoding_plan.specs.FixedFloats.{countedPlan};
+ghost use Rattle.encoding_plan.specs.FixedFloats.{countedColorPlan};
 ghost use Rattle.writer.specs.Writer.{answer, MeasuresProfile, Creates};
 
 // The refusal of an output that is shorter than what is to be written.
@@ -29,15 +29,16 @@ pub enum Profile {
 }
 
 // What the writer answers where the output has `capacity` bytes. Here alone it is decided.
-fn answer(encoding: JxlColorEncoding, planned: EncodingPlan, capacity: usize) -> Profile
-    requires { ⌜ checkedPlan planned encoding ≡ countedPlan encoding ⌝ }
-    ensures { λ r. ⌜ r ≡ answer (countedPlan encoding) capacity ⌝ }
+fn answer(encoding: Encoding, planned: EncodingPlan, capacity: usize) -> Profile
+    requires { ⌜ checkedPlan planned (encoding .color) ≡ countedColorPlan (encoding .adapted) (encoding .color) ⌝ }
+    ensures { λ r. ⌜ r ≡ answer (countedColorPlan (encoding .adapted) (encoding .color)) capacity ⌝ }
 {
     if planned.refusal != 0 {
         return Profile::Refused(planned.refusal);
     }
     let plan = planned.plan;
-    let letters = description_length::description_length(encoding);
+    let color = encoding.color;
+    let letters = description_length::description_length(color);
     let size = layout::length(profile::shape_of(plan, letters));
     if capacity < size {
         return Profile::Refused(TOO_SHORT);
@@ -58,12 +59,16 @@ fn put_profile(encoding: JxlColorEncoding, plan: Numbers, size: usize, out: &mut
     layout::put_plan(out, plan, &bytes[..len], size);
 }
 
-// What `maybe_create_profile` answers where the output has `capacity` bytes, whatever maker and model are: the profile's length, before there is memory
-// for it.
-pub fn profile_length(encoding: JxlColorEncoding, capacity: usize) -> Profile
+// What `maybe_create_profile` answers where the output has `capacity` bytes: the profile's length, before there is memory for it.
+pub fn profile_length(encoding: Encoding, capacity: usize) -> Profile
     ensures { λ r. ⌜ MeasuresProfile encoding capacity r ⌝ }
 {
-    answer(encoding, encoding_plan::plan_of(encoding), capacity)
+    let color = encoding.color;
+    answer(
+        encoding,
+        encoding_plan::plan_of(color, encoding.adapted),
+        capacity,
+    )
 }
 
 // Writes the profile of an encoding, with its maker and model, to the front of the output. On a refusal no byte of the output changes.
@@ -71,8 +76,8 @@ pub fn maybe_create_profile(encoding: Encoding, out: &mut [u8]) -> Profile
     ensures { λ r. ⌜ Creates encoding (now (out .entry)) (now (out .exit)) r ⌝ }
 {
     let color = encoding.color;
-    let planned = encoding_plan::plan_of(color);
-    let answered = answer(color, planned, out.len());
+    let planned = encoding_plan::plan_of(color, encoding.adapted);
+    let answered = answer(encoding, planned, out.len());
     if let Profile::Written {
         length: size,
         rounded: _,

@@ -1,6 +1,7 @@
 -- The fixed numbers of an encoding's floats, part by part. Assumes nothing.
 use Prim.Native.Nat.{ℕ, _+_}
 use mathlib.Core.Path.{_≡_, refl, ap, ap₂, subst, _∙_}
+use mathlib.Core.Bool.{Bool, true, false}
 use mathlib.Core.List.{List, [], _∷_, _++_, map, map-append}
 use lib.IntN.{ℤ, pos}
 use lib.Ieee.{Float, ofBits}
@@ -23,8 +24,8 @@ use Rattle.adaptation.specs.Adapt.{chadMatrix}
 use Rattle.colorimetry.specs.Primaries.{createIccRgbMatrix}
 use Rattle.xyb_constants.specs.XybNumbers as Xyb
 use Rattle.xyb_constants.specs.XybNumbersLaws as XybLaws
-use Rattle.profile.specs.Plan.{Plan, Content, gray, rgb, xyb}
-use Rattle.profile.specs.PlanLaws.{Nines}
+use Rattle.profile.specs.Plan.{Plan, GrayWhite, unadapted, adapted, Content, gray, rgb, xyb, InRange}
+use Rattle.profile.specs.PlanLaws.{WhiteNines, Nines, white-nines}
 use Rattle.profile.specs.Layout.{D50}
 use Rattle.profile.specs.FixedConstants.{d50Floats, d50-rounded, parameters-rounded}
 use Rattle.profile.specs.declared.CurveName.the-variants as Name
@@ -34,10 +35,10 @@ use Rattle.encoding_curve.specs.CurveOf.{supported, curveOf, curveFloats, recip
 use Rattle.encoding_curve.specs.declared.SupportedCurve.{SupportedCurve}
 use Rattle.encoding_curve.specs.declared.SupportedCurve.the-variants as Supported
 use Rattle.encoding_numbers.specs.NumbersOf.{grayNumbers, chadNumbers, columnNumbers, grayFloats, chadFloats, columnFloats}
-use Rattle.encoding_plan.specs.FixedFloats.{transferFloats, fixedFloats}
-use Rattle.encoding_plan.specs.PlanOf.{xybPlan, planOf}
-use Rattle.writer_laws.specs.PlanLaws.{chad-nine, columns-nine, gray-parts, rgb-parts}
-use Rattle.writer_laws.specs.FileNumbers.{curveNumbers, identityNumbers, fixedNumbers, byCurve, numberCount}
+use Rattle.encoding_plan.specs.FixedFloats.{transferFloats, whiteFloats, colorFloats}
+use Rattle.encoding_plan.specs.PlanOf.{grayWhite, xybPlan, colorPlan}
+use Rattle.writer_laws.specs.PlanLaws.{chad-nine, columns-nine, white-good, gray-parts, rgb-parts}
+use Rattle.writer_laws.specs.FileNumbers.{curveNumbers, whiteAndChad, identityNumbers, fixedNumbers, byCurve, grayCount, numberCount}
 
 abbrev pub numbersOf : List Float → List ℤ
 numbersOf xs = map fixedNumber xs
@@ -82,6 +83,18 @@ column-numbers p w {k} e =
     let g = both (createIccRgbMatrix p w) _ e in
     ap (λ (c : Checked (List (List Float))). numbersOf (valueOr [] (then c (λ x. is (columns x))))) (g .first) ∙ fixedNumbers-are 7 (columns (g .value)) k (g .second)
 
+-- of gray, with the mark and without
+
+white-numbers : (a : Bool) (w : WhiteXy) {white : GrayWhite} → grayWhite a w ≡ is white → numbersOf (whiteFloats a w) ≡ whiteAndChad white
+white-numbers true w {white} e =
+    let m = both (chadNumbers w) _ e in
+    let same : adapted (m .value) ≡ white = cc (m .second) in
+    after d50Floats (chadFloats w) d50-rounded (chad-numbers w (m .first)) ∙ ap whiteAndChad same
+white-numbers false w {white} e =
+    let xz = both (grayNumbers w) _ e in
+    let same : unadapted (xz .value .0) (xz .value .1) ≡ white = cc (xz .second) in
+    gray-numbers w (xz .first) ∙ ap whiteAndChad same
+
 -- ---- the curve
 
 curve-numbers : (s : SupportedCurve) {c : Curve} → curveOf s ≡ is c → numbersOf (curveFloats s) ≡ curveNumbers c
@@ -104,7 +117,13 @@ curve-count (Named Name.DCI) n = refl
 curve-count (Gamma g) n = refl
 
 pub number-count : (c : Content) → Nines c → length (fixedNumbers c) ≡ numberCount c
-number-count (gray g) h = length-append (g .white-x ∷ pos 65536 ∷ g .white-z ∷ []) (curveNumbers (g .curve)) ∙ curve-count (g .curve) 3
+number-count (gray g) h = length-append (whiteAndChad (g .white)) (curveNumbers (g .curve)) ∙ by-white (g .white) h
+  where
+    by-white : (w : GrayWhite) → WhiteNines w → length (whiteAndChad w) + length (curveNumbers (g .curve)) ≡ grayCount (g .curve) w
+    by-white (unadapted x z) h = curve-count (g .curve) 3
+    by-white (adapted m) h =
+        let first : length (D50 ++ m) ≡ 12 = simp h in
+        ap (λ (n : ℕ). n + length (curveNumbers (g .curve))) first ∙ curve-count (g .curve) 12
 number-count (rgb g) h =
     let first : length (D50 ++ g .chad ++ g .columns) ≡ 21 = simp (length-append (D50 ++ g .chad) (g .columns), h .0, h .1) in
     length-append (D50 ++ g .chad ++ g .columns) (curveNumbers (g .curve)) ∙ ap (λ (n : ℕ). n + length (curveNumbers (g .curve))) first ∙ curve-count (g .curve) 21
@@ -123,23 +142,23 @@ xyb-numbers =
 
 -- ---- all parts, in their order, and the nine numbers of `chad` and of the columns
 
-abbrev Numbers : JxlColorEncoding → Plan → Type 0
-Numbers e p = (numbersOf (fixedFloats e) ≡ fixedNumbers (p .content)) × Nines (p .content)
+abbrev Numbers : Bool → JxlColorEncoding → Plan → Type 0
+Numbers a e p = (numbersOf (colorFloats a e) ≡ fixedNumbers (p .content)) × Nines (p .content)
 
-pub file-numbers : (e : JxlColorEncoding) {p : Plan} → planOf e ≡ is p → Numbers e p
-unfolding planOf fixedFloats
-file-numbers (GrayscaleColorSpace w t i) {p} e =
-    let g = gray-parts w t i e in
-    let floats = after (grayFloats (whiteXy w)) (transferFloats t) (gray-numbers (whiteXy w) (g .white-is)) (transfer-numbers t (g .support-is) (g .curve-is)) in
-    subst (Numbers (GrayscaleColorSpace w t i)) (g .plan-is) (floats, tt)
-file-numbers (RgbColorSpace w q t i) {p} e =
-    let g = rgb-parts w q t i e in
+pub file-numbers : (a : Bool) (e : JxlColorEncoding) {p : Plan} → colorPlan a e ≡ is p → Numbers a e p
+unfolding colorPlan colorFloats
+file-numbers a (GrayscaleColorSpace w t i) {p} e =
+    let g = gray-parts a w t i e in
+    let floats = after (whiteFloats a (whiteXy w)) (transferFloats t) (white-numbers a (whiteXy w) (g .white-is)) (transfer-numbers t (g .support-is) (g .curve-is)) in
+    subst (Numbers a (GrayscaleColorSpace w t i)) (g .plan-is) (floats, white-nines InRange (g .white) (white-good a (whiteXy w) (g .white-is)))
+file-numbers a (RgbColorSpace w q t i) {p} e =
+    let g = rgb-parts a w q t i e in
     let chad = chadFloats (whiteXy w) in
     let columns = columnFloats (primariesXy q) (whiteXy w) in
     let matrices =
     after (d50Floats ++ chad) columns (after d50Floats chad d50-rounded (chad-numbers (whiteXy w) (g .chad-is))) (column-numbers (primariesXy q) (whiteXy w) (g .columns-are)) in
     let floats = after (d50Floats ++ chad ++ columns) (transferFloats t) matrices (transfer-numbers t (g .support-is) (g .curve-is)) in
-    subst (Numbers (RgbColorSpace w q t i)) (g .plan-is) (floats, (chad-nine (whiteXy w) (g .chad-is), columns-nine (primariesXy q) (whiteXy w) (g .columns-are)))
-file-numbers (XYB i) {p} e =
+    subst (Numbers a (RgbColorSpace w q t i)) (g .plan-is) (floats, (chad-nine (whiteXy w) (g .chad-is), columns-nine (primariesXy q) (whiteXy w) (g .columns-are)))
+file-numbers a (XYB i) {p} e =
     let same : xybPlan i ≡ p = cc in
-    subst (Numbers (XYB i)) same (after d50Floats Xyb.fixedFloats d50-rounded xyb-numbers, tt)
+    subst (Numbers a (XYB i)) same (after d50Floats Xyb.fixedFloats d50-rounded xyb-numbers, tt)

@@ -1,6 +1,7 @@
--- What the checks of `planOf` that passed tell of the plan's parts. Assumes nothing.
+-- What the checks of `colorPlan` that passed tell of the plan's parts. Assumes nothing.
 use mathlib.Core.Path.{_≡_, refl}
 use mathlib.Core.Logic.{inl, inr}
+use mathlib.Core.Bool.{Bool, true, false}
 use mathlib.Core.List.{List}
 use lib.ListN.{length}
 use lib.IntN.{ℤ}
@@ -27,12 +28,12 @@ use Rattle.colorimetry.specs.Primaries.{createIccRgbMatrix}
 use Rattle.text.specs.Description.{description}
 use Rattle.text.specs.Held.{HeldEncoding, WhiteInRange}
 use Rattle.text.specs.Bounds.{length-in-range, some-letter, ascii-description}
-use Rattle.profile.specs.Plan.{Plan, InRange, GoodText, GoodCurve, GoodCicp}
+use Rattle.profile.specs.Plan.{Plan, GrayWhite, GoodWhite, unadapted, adapted, InRange, GoodText, GoodCurve, GoodCicp}
 use Rattle.profile.specs.declared.Curve.{Curve}
 use Rattle.profile.specs.declared.Curve.the-variants.{Named, Gamma}
 use Rattle.profile.specs.declared.CurveName.{CurveName}
 use Rattle.encoding_plan.specs.Answers.{reciprocalRefusal}
-use Rattle.encoding_plan.specs.PlanOf.{supported, curveOf, grayNumbers, chadNumbers, columnNumbers, cicpPair, cicpOf, grayPlan, rgbPlan, planOf}
+use Rattle.encoding_plan.specs.PlanOf.{supported, curveOf, grayNumbers, chadNumbers, columnNumbers, grayWhite, cicpPair, cicpOf, grayPlan, rgbPlan, colorPlan}
 use Rattle.encoding_curve.specs.declared.SupportedCurve.{SupportedCurve}
 use Rattle.encoding_curve.specs.declared.SupportedCurve.the-variants as Supported
 
@@ -54,13 +55,23 @@ module _ (p : PrimariesXy) (w : WhiteXy) {k : List ℤ} (e : columnNumbers p w �
 
 -- ---- a gray white
 
-pub white-within : (w : WhiteXy) {xz : ℤ × ℤ} → grayNumbers w ≡ is xz → InRange (xz .0) × InRange (xz .1)
-white-within w {xz} e =
+xz-within : (w : WhiteXy) {xz : ℤ × ℤ} → grayNumbers w ≡ is xz → InRange (xz .0) × InRange (xz .1)
+xz-within w {xz} e =
     let v = both (cieXyzFromWhiteCieXy w) _ e in
     let a = both (fixedOr 7 (component (v .value) 0)) _ (v .second) in
     let b = both (fixedOr 7 (component (v .value) 2)) _ (a .second) in
     let same : (a .value, b .value) ≡ xz = cc (b .second) in
     (rw (← same) (within-if 7 _ (a .first)), rw (← same) (within-if 7 _ (b .first)))
+
+pub white-good : (a : Bool) (w : WhiteXy) {white : GrayWhite} → grayWhite a w ≡ is white → GoodWhite InRange white
+white-good true w {white} e =
+    let m = both (chadNumbers w) _ e in
+    let same : adapted (m .value) ≡ white = cc (m .second) in
+    rw (← same) (chad-nine w (m .first), chad-within w (m .first))
+white-good false w {white} e =
+    let xz = both (grayNumbers w) _ e in
+    let same : unadapted (xz .value .0) (xz .value .1) ≡ white = cc (xz .second) in
+    rw (← same) (xz-within w (xz .first))
 
 -- ---- a curve
 
@@ -96,20 +107,20 @@ text-good e h r = record { some-letter = some-letter e; short = length-in-range 
 
 -- ---- the parts of which the plan of an accepted encoding is made
 
-pub record GrayParts (w : JxlWhitePoint) (t : JxlTransferFunction) (i : RenderingIntent) (p : Plan) : Type 0 where
+pub record GrayParts (a : Bool) (w : JxlWhitePoint) (t : JxlTransferFunction) (i : RenderingIntent) (p : Plan) : Type 0 where
   pub support : SupportedCurve
   pub support-is : supported t ≡ is support
-  pub white : ℤ × ℤ
-  pub white-is : grayNumbers (whiteXy w) ≡ is white
+  pub white : GrayWhite
+  pub white-is : grayWhite a (whiteXy w) ≡ is white
   pub curve : Curve
   pub curve-is : curveOf support ≡ is curve
   pub plan-is : grayPlan (GrayscaleColorSpace w t i) i curve white ≡ p
 
-pub gray-parts : (w : JxlWhitePoint) (t : JxlTransferFunction) (i : RenderingIntent) {p : Plan} → planOf (GrayscaleColorSpace w t i) ≡ is p → GrayParts w t i p
-unfolding planOf
-gray-parts w t i e =
+pub gray-parts : (a : Bool) (w : JxlWhitePoint) (t : JxlTransferFunction) (i : RenderingIntent) {p : Plan} → colorPlan a (GrayscaleColorSpace w t i) ≡ is p → GrayParts a w t i p
+unfolding colorPlan
+gray-parts a w t i e =
     let s = both (supported t) _ e in
-    let n = both (grayNumbers (whiteXy w)) _ (s .second) in
+    let n = both (grayWhite a (whiteXy w)) _ (s .second) in
     let c = both (curveOf (s .value)) _ (n .second) in
     record {
       support = s .value;
@@ -132,9 +143,10 @@ pub record RgbParts (w : JxlWhitePoint) (q : JxlPrimaries) (t : JxlTransferFunct
   pub curve-is : curveOf support ≡ is curve
   pub plan-is : rgbPlan (RgbColorSpace w q t i) i curve (cicpOf w q curve) chad columns ≡ p
 
-pub rgb-parts : (w : JxlWhitePoint) (q : JxlPrimaries) (t : JxlTransferFunction) (i : RenderingIntent) {p : Plan} → planOf (RgbColorSpace w q t i) ≡ is p → RgbParts w q t i p
-unfolding planOf
-rgb-parts w q t i e =
+pub rgb-parts : (a : Bool) (w : JxlWhitePoint) (q : JxlPrimaries) (t : JxlTransferFunction) (i : RenderingIntent) {p : Plan} → colorPlan a (RgbColorSpace w q t i) ≡ is p
+    → RgbParts w q t i p
+unfolding colorPlan
+rgb-parts a w q t i e =
     let s = both (supported t) _ e in
     let m = both (chadNumbers (whiteXy w)) _ (s .second) in
     let k = both (columnNumbers (primariesXy q) (whiteXy w)) _ (m .second) in

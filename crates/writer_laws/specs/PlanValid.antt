@@ -2,6 +2,7 @@
 -- range, nine and nine, and `cicp` stands beside a named curve only. The floats of the encoding are binary32 values, as those of the code are.
 -- Assumes nothing.
 use mathlib.Core.Path.{_≡_}
+use mathlib.Core.Bool.{Bool}
 use native.Mathlib.Omega.{arith}
 use Rattle.buffer.specs.Checked.{is}
 use Rattle.color_encoding.specs.IntentLaws.{intentNumber-le}
@@ -10,18 +11,17 @@ use Rattle.color_encoding.specs.declared.JxlColorEncoding.{JxlColorEncoding}
 use Rattle.color_encoding.specs.declared.JxlColorEncoding.the-variants.{RgbColorSpace, GrayscaleColorSpace, XYB}
 use Rattle.text.specs.Held.{HeldEncoding}
 use Rattle.profile.specs.Plan.{Plan, FourBytes, Valid}
-use Rattle.encoding_plan.specs.PlanOf.{xybPlan, planOf}
+use Rattle.encoding_plan.specs.PlanOf.{xybPlan, colorPlan}
 use Rattle.encoding_plan.specs.EncodingPlan.{encodingPlan}
 use Rattle.encoding_plan.specs.EncodingPlanLaws.{from-color}
 use Rattle.encoding_plan.specs.declared.Encoding.{Encoding}
 use Rattle.encoding_plan.specs.WhiteLaws.{white-in-range}
-use Rattle.writer_laws.specs.PlanLaws.{chad-nine, chad-within, columns-nine, columns-within, white-within, curve-good, cicp-good, text-good, gray-parts, rgb-parts}
+use Rattle.writer_laws.specs.PlanLaws.{chad-nine, chad-within, columns-nine, columns-within, white-good, curve-good, cicp-good, text-good, gray-parts, rgb-parts}
 
-pub plan-valid : (e : JxlColorEncoding) → HeldEncoding e → {p : Plan} → planOf e ≡ is p → Valid p
-unfolding planOf
-plan-valid (GrayscaleColorSpace w t i) held {p} e =
-    let g = gray-parts w t i e in
-    let xz = white-within (whiteXy w) (g .white-is) in
+pub plan-valid : (a : Bool) (e : JxlColorEncoding) → HeldEncoding e → {p : Plan} → colorPlan a e ≡ is p → Valid p
+unfolding colorPlan
+plan-valid a (GrayscaleColorSpace w t i) held {p} e =
+    let g = gray-parts a w t i e in
     rw (← g .plan-is)
     (record {
       intent = intentNumber-le i;
@@ -31,12 +31,11 @@ plan-valid (GrayscaleColorSpace w t i) held {p} e =
           record {
             text = text-good (GrayscaleColorSpace w t i) held tt;
             curve = curve-good (g .support) (g .curve-is);
-            white-x = xz .0;
-            white-z = xz .1;
+            white = white-good a (whiteXy w) (g .white-is);
           };
     })
-plan-valid (RgbColorSpace w q t i) held {p} e =
-    let g = rgb-parts w q t i e in
+plan-valid a (RgbColorSpace w q t i) held {p} e =
+    let g = rgb-parts a w q t i e in
     rw (← g .plan-is)
     (record {
       intent = intentNumber-le i;
@@ -53,7 +52,7 @@ plan-valid (RgbColorSpace w q t i) held {p} e =
             cicp = cicp-good w q (g .curve);
           };
     })
-plan-valid (XYB i) held {p} e =
+plan-valid a (XYB i) held {p} e =
     let same : xybPlan i ≡ p = cc in
     rw (← same) (record { intent = intentNumber-le i; maker = omega arith; model = omega arith; content = tt })
 
@@ -61,5 +60,5 @@ plan-valid (XYB i) held {p} e =
 pub encoding-plan-valid : (e : Encoding) → HeldEncoding (e .color) → FourBytes (e .maker) → FourBytes (e .model) → {q : Plan} → encodingPlan e ≡ is q → Valid q
 encoding-plan-valid e held maker model h =
     let d = from-color e h in
-    let v = plan-valid (e .color) held (d .color-plan) in
+    let v = plan-valid (e .adapted) (e .color) held (d .color-plan) in
     rw (← d .device) (record { intent = v .intent; maker = maker; model = model; content = v .content })

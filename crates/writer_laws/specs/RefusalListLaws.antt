@@ -1,4 +1,4 @@
--- The steps of `planOf` decide the checks of the refusal list, in their order. Assumes nothing.
+-- The steps of `colorPlan` decide the checks of the refusal list, in their order. Assumes nothing.
 use Prim.Native.Nat.{ℕ}
 use mathlib.Core.Path.{_≡_, refl, sym, subst, _∙_}
 use mathlib.Core.Bool.{Bool, true, false, not, cond}
@@ -19,8 +19,8 @@ use Rattle.numbers.specs.declared.fixed.S15Fixed16.{S15Fixed16}
 use Rattle.numbers.specs.declared.fixed.S15Fixed16.the-variants.{Number, OutOfRange}
 use Rattle.profile.specs.Plan.{Plan}
 use Rattle.profile.specs.Layout.{layout}
-use Rattle.encoding_plan.specs.PlanOf.{planOf}
-use Rattle.encoding_plan.specs.FixedFloats.{fixedFloats}
+use Rattle.encoding_plan.specs.PlanOf.{colorPlan}
+use Rattle.encoding_plan.specs.FixedFloats.{colorFloats}
 use Rattle.color_encoding.specs.declared.JxlColorEncoding.{JxlColorEncoding}
 use Rattle.writer.specs.Writer.{answer, tooShort}
 use Rattle.writer.specs.declared.Profile.{Profile}
@@ -86,27 +86,27 @@ test-decides false false k c a pass fail = passes-as refl (pass refl)
 
 -- ---- the answer by the checks that are left
 
-module _ (e : JxlColorEncoding) (n : ℕ) where
+module _ (m : Bool) (e : JxlColorEncoding) (n : ℕ) where
   -- the answer where the plan, or its refusal, is c
   abbrev pub answerTo : Checked Plan → Profile
-  answerTo c = answer (counted (fixedFloats e) c) n
+  answerTo c = answer (counted (colorFloats m e) c) n
 
   pub data From (cs : List Check) : Profile → Type 0 where
-    stops : {c : Check} → First (Passed e n) cs c → From cs (Refused (number c))
-    writes : (p : Plan) → planOf e ≡ is p → All (Passed e n) cs → From cs (Written (length (layout p)) (roundedIn (fixedFloats e)))
+    stops : {c : Check} → First (Passed m e n) cs c → From cs (Refused (number c))
+    writes : (p : Plan) → colorPlan m e ≡ is p → All (Passed m e n) cs → From cs (Written (length (layout p)) (roundedIn (colorFloats m e)))
 
-  pub onward : {c : Check} {cs : List Check} {a : Profile} → Passed e n c → From cs a → From (c ∷ cs) a
+  pub onward : {c : Check} {cs : List Check} {a : Profile} → Passed m e n c → From cs a → From (c ∷ cs) a
   onward p (stops f) = stops (later p f)
   onward p (writes q g all) = writes q g (more p all)
 
   -- a step that decides the next check, and what follows where it passes
-  pub step : (c : Check) {cs : List Check} {A : Type 0} {x : Checked A} (f : A → Checked Plan) → Decides (Passed e n c) (number c) x
-      → ((a : A) → Passed e n c → x ≡ is a → From cs (answerTo (f a))) → From (c ∷ cs) (answerTo (then x f))
+  pub step : (c : Check) {cs : List Check} {A : Type 0} {x : Checked A} (f : A → Checked Plan) → Decides (Passed m e n c) (number c) x
+      → ((a : A) → Passed m e n c → x ≡ is a → From cs (answerTo (f a))) → From (c ∷ cs) (answerTo (then x f))
   step c {cs} {x = x} f (passes p a g) r = subst (λ y. From (c ∷ cs) (answerTo (then y f))) (sym g) (onward p (r a p g))
   step c {cs} {x = x} f (refuses bad g) r = subst (λ y. From (c ∷ cs) (answerTo (then y f))) (sym g) (stops (fails bad))
 
-  pub step-as : (c : Check) {cs : List Check} {A : Type 0} {x : Checked A} (a : A) (f : A → Checked Plan) → DecidesAs (Passed e n c) (number c) x a
-      → (Passed e n c → x ≡ is a → From cs (answerTo (f a))) → From (c ∷ cs) (answerTo (then x f))
+  pub step-as : (c : Check) {cs : List Check} {A : Type 0} {x : Checked A} (a : A) (f : A → Checked Plan) → DecidesAs (Passed m e n c) (number c) x a
+      → (Passed m e n c → x ≡ is a → From cs (answerTo (f a))) → From (c ∷ cs) (answerTo (then x f))
   step-as c {cs} a f (passes-as p g) r = subst (λ y. From (c ∷ cs) (answerTo (then y f))) (sym g) (onward p (r p g))
   step-as c {cs} a f (refuses-as bad g) r = subst (λ y. From (c ∷ cs) (answerTo (then y f))) (sym g) (stops (fails bad))
 
@@ -116,9 +116,9 @@ module _ (e : JxlColorEncoding) (n : ℕ) where
   apart {cs} x f g r = subst (λ (c : Checked Plan). From cs (answerTo c)) (sym (then-assoc x f g)) r
 
   -- the last check, of a plan that is laid out
-  pub last : (p : Plan) → planOf e ≡ is p → From (c9 ∷ []) (answerTo (is p))
+  pub last : (p : Plan) → colorPlan m e ≡ is p → From (c9 ∷ []) (answerTo (is p))
   last p g = go (leb (length (layout p)) n) refl
     where
-      go : (b : Bool) → leb (length (layout p)) n ≡ b → From (c9 ∷ []) (cond b (Written (length (layout p)) (roundedIn (fixedFloats e))) (Refused tooShort))
+      go : (b : Bool) → leb (length (layout p)) n ≡ b → From (c9 ∷ []) (cond b (Written (length (layout p)) (roundedIn (colorFloats m e))) (Refused tooShort))
       go true h = writes p g (more {a = c9} (λ q k. let same : p ≡ q = cc (sym g ∙ k) in rw (← same) (leb→le (length (layout p)) n (Bools.holds h))) none)
       go false h = stops (fails {c = c9} (λ ok. Bools.true≢false (sym (le-leb (length (layout p)) n (ok p g)) ∙ h)))

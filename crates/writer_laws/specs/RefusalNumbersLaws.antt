@@ -18,8 +18,8 @@ use Rattle.color_encoding.specs.declared.JxlColorEncoding.{JxlColorEncoding}
 use Rattle.profile.specs.Plan.{Plan}
 use Rattle.profile.specs.Shape.{minLength}
 use Rattle.profile.specs.Layout.{layout}
-use Rattle.encoding_plan.specs.PlanOf.{planOf}
-use Rattle.encoding_plan.specs.FixedFloats.{fixedFloats, countedPlan}
+use Rattle.encoding_plan.specs.PlanOf.{colorPlan}
+use Rattle.encoding_plan.specs.FixedFloats.{colorFloats, countedColorPlan}
 use Rattle.writer.specs.Writer.{answer, number as numberOf, countAfter, profileBy, tooShort}
 use Rattle.writer.specs.declared.Profile.{Profile}
 use Rattle.writer.specs.declared.Profile.the-variants.{Written, Refused}
@@ -28,9 +28,9 @@ use Rattle.writer_laws.specs.WriterAnswersLaws.{answered}
 
 -- ---- the number of a refused encoding
 
-module _ (e : JxlColorEncoding) {k : ℕ} (h : planOf e ≡ refused k) where
+module _ (m : Bool) (e : JxlColorEncoding) {k : ℕ} (h : colorPlan m e ≡ refused k) where
   -- a refused encoding has no profile that an output could be too short for
-  before-output : (c : Check) → First (Passed e 0) checks c → (1 ≤ number c) × (number c ≤ 8)
+  before-output : (c : Check) → First (Passed m e 0) checks c → (1 ≤ number c) × (number c ≤ 8)
   before-output c1 f = (lit≤ tt, lit≤ tt)
   before-output c3 f = (lit≤ tt, lit≤ tt)
   before-output c4 f = (lit≤ tt, lit≤ tt)
@@ -41,9 +41,9 @@ module _ (e : JxlColorEncoding) {k : ℕ} (h : planOf e ≡ refused k) where
   before-output c9 f = absurd (first-fails f (λ p g. absurd (never (sym h ∙ g))))
 
   pub refusal-bounds : (1 ≤ k) × (k ≤ 8)
-  refusal-bounds = go (answered e 0) (ap (λ c. answer (counted (fixedFloats e) c) 0) h)
+  refusal-bounds = go (answered m e 0) (ap (λ c. answer (counted (colorFloats m e) c) 0) h)
     where
-      go : {a : Profile} → Answers e 0 a → a ≡ Refused k → (1 ≤ k) × (k ≤ 8)
+      go : {a : Profile} → Answers m e 0 a → a ≡ Refused k → (1 ≤ k) × (k ≤ 8)
       go (refuses {c} f) g = let same : number c ≡ k = cc in rw (← same) (before-output c f)
       go (writes p q all) g = let z : _≡_ {A = ℕ} 0 1 = cc in absurd (omega arith)
 
@@ -59,10 +59,10 @@ not-2 c7 e = omega arith
 not-2 c8 e = omega arith
 not-2 c9 e = omega arith
 
-pub never-2 : (e : JxlColorEncoding) (n : ℕ) → answer (countedPlan e) n ≡ Refused 2 → ⊥
-never-2 e n h = go (answered e n) h
+pub never-2 : (m : Bool) (e : JxlColorEncoding) (n : ℕ) → answer (countedColorPlan m e) n ≡ Refused 2 → ⊥
+never-2 m e n h = go (answered m e n) h
   where
-    go : {a : Profile} → Answers e n a → a ≡ Refused 2 → ⊥
+    go : {a : Profile} → Answers m e n a → a ≡ Refused 2 → ⊥
     go (refuses {c} f) g = let same : number c ≡ 2 = cc in not-2 c same
     go (writes p q all) g = let z : _≡_ {A = ℕ} 0 1 = cc in omega arith
 

@@ -10,9 +10,9 @@ use Rattle.writer.specs.declared.Profile.{Profile}
 use Rattle.writer_laws.specs.RefusalList.{Answers}
 use Rattle.writer_laws.specs.WriterAnswersLaws.{answered, answer-unique}
 
-pub writer-answers : (e : Encoding) (n : ℕ) → Answers (e .color) n (answer (countedEncodingPlan e) n)
-writer-answers e n = rw (any-device e n) (answered (e .color) n)
+pub writer-answers : (e : Encoding) (n : ℕ) → Answers (e .adapted) (e .color) n (answer (countedEncodingPlan e) n)
+writer-answers e n = rw (any-device e n) (answered (e .adapted) (e .color) n)
 
 -- and nothing else
-pub writer-answer-is : (e : Encoding) (n : ℕ) (a : Profile) → Answers (e .color) n a → answer (countedEncodingPlan e) n ≡ a
+pub writer-answer-is : (e : Encoding) (n : ℕ) (a : Profile) → Answers (e .adapted) (e .color) n a → answer (countedEncodingPlan e) n ≡ a
 writer-answer-is e n a h = answer-unique (writer-answers e n) h

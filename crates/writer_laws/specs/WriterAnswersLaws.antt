@@ -1,7 +1,7 @@
 -- The writer's answer to gray, to RGB and to XYB, check by check. Assumes nothing.
 use Prim.Native.Nat.{ℕ}
 use mathlib.Core.Path.{_≡_, refl, sym, ap, subst, _∙_}
-use mathlib.Core.Bool.{true, false}
+use mathlib.Core.Bool.{Bool, true, false}
 use mathlib.Core.List.{[], _∷_}
 use native.Mathlib.Omega.{arith}
 use lib.ListN.{length}
@@ -30,15 +30,15 @@ use Rattle.adaptation.specs.Adapt.{adaptable, chadMatrix}
 use Rattle.adaptation.specs.AdaptLaws.{chad-given, chad-refused}
 use Rattle.colorimetry.specs.Primaries.{primariesMatrix, createIccRgbMatrix}
 use Rattle.colorimetry.specs.PrimariesLaws.{matrix-given, matrix-refused}
-use Rattle.profile.specs.Plan.{Plan}
+use Rattle.profile.specs.Plan.{Plan, unadapted, adapted}
 use Rattle.profile.specs.declared.Curve.the-variants.{Named, Gamma}
 use Rattle.profile.specs.declared.CurveName.{CurveName}
 use Rattle.profile.specs.declared.CurveName.the-variants as Name
 use Rattle.encoding_plan.specs.Answers.{reciprocalRefusal}
-use Rattle.encoding_plan.specs.PlanOf.{supported, curveOf, cicpOf, grayPlan, rgbPlan, xybPlan, planOf}
+use Rattle.encoding_plan.specs.PlanOf.{supported, curveOf, cicpOf, grayNumbers, chadNumbers, grayPlan, rgbPlan, xybPlan, colorPlan}
 use Rattle.encoding_curve.specs.declared.SupportedCurve.{SupportedCurve}
 use Rattle.encoding_curve.specs.declared.SupportedCurve.the-variants as Supported
-use Rattle.encoding_plan.specs.FixedFloats.{fixedFloats, countedPlan}
+use Rattle.encoding_plan.specs.FixedFloats.{colorFloats, countedColorPlan}
 use Rattle.profile.specs.Layout.{layout}
 use Rattle.writer.specs.Writer.{answer}
 use Rattle.writer.specs.declared.Profile.{Profile}
@@ -100,69 +100,87 @@ module _ (w : JxlWhitePoint) (t : JxlTransferFunction) (i : RenderingIntent) (n 
   abbrev gray : JxlColorEncoding
   gray = GrayscaleColorSpace w t i
 
-  pub gray-answered : From gray n checks (answer (countedPlan gray) n)
-  unfolding planOf
+  pub gray-answered : From false gray n checks (answer (countedColorPlan false gray) n)
+  unfolding colorPlan
   gray-answered =
       let xy = whiteXy w in
-      step gray n c1 _ (supported-decides t) (λ s _ a.
-      apart gray n (cieXyzFromWhiteCieXy xy) _ _
-      (step-as gray n c3 (grayX xy ∷ one ∷ grayZ xy ∷ []) _ (white-decides xy) (λ _ b.
-      onward gray n tt
-      (onward gray n tt
-      (onward gray n tt
-      (step gray n c7 _ (both-decide (fixed-decides 7 (grayX xy)) (λ x. value-of (λ z. (x, z)) (fixed-decides 7 (grayZ xy)))) (λ xz _ c.
-      step gray n c8 _ (curve-decides t s a) (λ k _ d.
-      last gray n (grayPlan gray i k xz) (rw (a, b, c, d) refl)))))))))
+      step false gray n c1 _ (supported-decides t) (λ s _ a.
+      apart false gray n (grayNumbers xy) _ _
+      (apart false gray n (cieXyzFromWhiteCieXy xy) _ _
+      (step-as false gray n c3 (grayX xy ∷ one ∷ grayZ xy ∷ []) _ (white-decides xy) (λ _ b.
+      onward false gray n tt
+      (onward false gray n tt
+      (onward false gray n tt
+      (step false gray n c7 _ (both-decide (fixed-decides 7 (grayX xy)) (λ x. value-of (λ z. (x, z)) (fixed-decides 7 (grayZ xy)))) (λ xz _ c.
+      step false gray n c8 _ (curve-decides t s a) (λ k _ d.
+      last false gray n (grayPlan gray i k (unadapted (xz .0) (xz .1))) (rw (a, b, c, d) refl))))))))))
 
-module _ (w : JxlWhitePoint) (p : JxlPrimaries) (t : JxlTransferFunction) (i : RenderingIntent) (n : ℕ) where
+  -- with the mark
+  pub adapted-answered : From true gray n checks (answer (countedColorPlan true gray) n)
+  unfolding colorPlan
+  adapted-answered =
+      let xy = whiteXy w in
+      step true gray n c1 _ (supported-decides t) (λ s _ a.
+      onward true gray n tt
+      (apart true gray n (chadNumbers xy) _ _
+      (apart true gray n (chadMatrix xy) _ _
+      (step-as true gray n c4 (chadOf xy) _ (chad-decides xy) (λ _ b.
+      step true gray n c5 _ (each-decides 5 (rows (chadOf xy))) (λ m _ c.
+      onward true gray n tt
+      (onward true gray n tt
+      (step true gray n c8 _ (curve-decides t s a) (λ k _ d.
+      last true gray n (grayPlan gray i k (adapted m)) (rw (a, b, c, d) refl))))))))))
+
+module _ (m : Bool) (w : JxlWhitePoint) (p : JxlPrimaries) (t : JxlTransferFunction) (i : RenderingIntent) (n : ℕ) where
   abbrev color : JxlColorEncoding
   color = RgbColorSpace w p t i
 
-  pub rgb-answered : From color n checks (answer (countedPlan color) n)
-  unfolding planOf
+  pub rgb-answered : From m color n checks (answer (countedColorPlan m color) n)
+  unfolding colorPlan
   rgb-answered =
       let xy = whiteXy w in
       let ps = primariesXy p in
-      step color n c1 _ (supported-decides t) (λ s _ a.
-      onward color n tt
-      (apart color n (chadMatrix xy) _ _
-      (step-as color n c4 (chadOf xy) _ (chad-decides xy) (λ ok b.
-      step color n c5 _ (each-decides 5 (rows (chadOf xy))) (λ m _ c.
-      apart color n (createIccRgbMatrix ps xy) _ _
-      (step-as color n c6 (matrixOf ps xy) _ (matrix-decides ps xy ok) (λ _ d.
-      step color n c7 _ (each-decides 7 (columns (matrixOf ps xy))) (λ k _ e.
-      step color n c8 _ (curve-decides t s a) (λ v _ f.
-      last color n (rgbPlan color i v (cicpOf w p v) m k) (rw (a, b, c, d, e, f) refl))))))))))
+      step m color n c1 _ (supported-decides t) (λ s _ a.
+      onward m color n tt
+      (apart m color n (chadMatrix xy) _ _
+      (step-as m color n c4 (chadOf xy) _ (chad-decides xy) (λ ok b.
+      step m color n c5 _ (each-decides 5 (rows (chadOf xy))) (λ chad _ c.
+      apart m color n (createIccRgbMatrix ps xy) _ _
+      (step-as m color n c6 (matrixOf ps xy) _ (matrix-decides ps xy ok) (λ _ d.
+      step m color n c7 _ (each-decides 7 (columns (matrixOf ps xy))) (λ k _ e.
+      step m color n c8 _ (curve-decides t s a) (λ v _ f.
+      last m color n (rgbPlan color i v (cicpOf w p v) chad k) (rw (a, b, c, d, e, f) refl))))))))))
 
-pub xyb-answered : (i : RenderingIntent) (n : ℕ) → From (XYB i) n checks (answer (countedPlan (XYB i)) n)
-unfolding planOf
-xyb-answered i n =
+pub xyb-answered : (m : Bool) (i : RenderingIntent) (n : ℕ) → From m (XYB i) n checks (answer (countedColorPlan m (XYB i)) n)
+unfolding colorPlan
+xyb-answered m i n =
     let e = XYB i in
-    onward e n tt
-    (onward e n tt
-    (onward e n tt
-    (onward e n tt
-    (onward e n tt
-    (onward e n tt
-    (onward e n tt
-    (last e n (xybPlan i) refl)))))))
+    onward m e n tt
+    (onward m e n tt
+    (onward m e n tt
+    (onward m e n tt
+    (onward m e n tt
+    (onward m e n tt
+    (onward m e n tt
+    (last m e n (xybPlan i) refl)))))))
 
 -- ---- every encoding
 
-pub answered : (e : JxlColorEncoding) (n : ℕ) → Answers e n (answer (countedPlan e) n)
-answered e n = given (go e)
+pub answered : (m : Bool) (e : JxlColorEncoding) (n : ℕ) → Answers m e n (answer (countedColorPlan m e) n)
+answered m e n = given (go m e)
   where
-    go : (e : JxlColorEncoding) → From e n checks (answer (countedPlan e) n)
-    go (GrayscaleColorSpace w t i) = gray-answered w t i n
-    go (RgbColorSpace w p t i) = rgb-answered w p t i n
-    go (XYB i) = xyb-answered i n
+    go : (m : Bool) (e : JxlColorEncoding) → From m e n checks (answer (countedColorPlan m e) n)
+    go true (GrayscaleColorSpace w t i) = adapted-answered w t i n
+    go false (GrayscaleColorSpace w t i) = gray-answered w t i n
+    go m (RgbColorSpace w p t i) = rgb-answered m w p t i n
+    go m (XYB i) = xyb-answered m i n
 
-    given : {a : Profile} → From e n checks a → Answers e n a
+    given : {a : Profile} → From m e n checks a → Answers m e n a
     given (stops f) = refuses-by f
     given (writes p h all) = writes-it p h all
 
-pub answer-unique : {e : JxlColorEncoding} {n : ℕ} {a b : Profile} → Answers e n a → Answers e n b → a ≡ b
+pub answer-unique : {m : Bool} {e : JxlColorEncoding} {n : ℕ} {a b : Profile} → Answers m e n a → Answers m e n b → a ≡ b
 answer-unique (refuses-by f) (refuses-by g) = ap (λ (c : Check). Refused (number c)) (first-unique f g)
 answer-unique (refuses-by f) (writes-it p h all) = absurd (first-not-all f all)
 answer-unique (writes-it p h all) (refuses-by g) = absurd (first-not-all g all)
-answer-unique {e} (writes-it p h _) (writes-it q k _) = let same : p ≡ q = cc (sym h ∙ k) in ap (λ (r : Plan). Written (length (layout r)) (roundedIn (fixedFloats e))) same
+answer-unique {m} {e} (writes-it p h _) (writes-it q k _) = let same : p ≡ q = cc (sym h ∙ k) in ap (λ (r : Plan). Written (length (layout r)) (roundedIn (colorFloats m e))) same

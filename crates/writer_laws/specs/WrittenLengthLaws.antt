@@ -29,21 +29,22 @@ use Rattle.text.specs.Description.{underscore, whiteName, primariesName, transf
 use Rattle.text.specs.Held.{HeldEncoding, HeldPrimaries, InRange}
 use Rattle.text.specs.Bounds.{length-in-range}
 use Rattle.text.specs.BoundsLaws.{length-white-in-range, length-rgb-text}
-use Rattle.profile.specs.Plan.{Plan, maxLetters}
+use Rattle.profile.specs.Plan.{Plan, maxLetters, InRange as NumberInRange}
+use Rattle.profile.specs.PlanLaws.{white-nines}
 use Rattle.profile.specs.Layout.{layout}
 use Rattle.profile.specs.LayoutLaws.{length-layout}
 use Rattle.profile.specs.Elements.{fileLength, start, bodySize, tagCount, padding}
-use Rattle.profile.specs.Shape.{isGamma, hasCicp, slotsOf}
+use Rattle.profile.specs.Shape.{isGamma, hasCicp, isAdapted, slotsOf}
 use Rattle.profile.specs.declared.Kind.the-variants.{Gray, Rgb}
 use Rattle.profile.specs.declared.Curve.{Curve}
 use Rattle.profile.specs.declared.Curve.the-variants.{Named, Gamma}
 use Rattle.profile.specs.declared.CurveName.{CurveName}
 use Rattle.profile.specs.declared.CurveName.the-variants as Name
 use Rattle.encoding_plan.specs.Answers.{reciprocalRefusal}
-use Rattle.encoding_plan.specs.PlanOf.{supported, curveOf, cicpOf, grayPlan, rgbPlan, xybPlan, planOf}
+use Rattle.encoding_plan.specs.PlanOf.{supported, curveOf, cicpOf, grayPlan, rgbPlan, xybPlan, colorPlan}
 use Rattle.encoding_plan.specs.WhiteLaws.{white-in-range}
 use Rattle.writer.specs.Writer.{maxWritten}
-use Rattle.writer_laws.specs.PlanLaws.{chad-nine, columns-nine, gray-parts, rgb-parts}
+use Rattle.writer_laws.specs.PlanLaws.{chad-nine, columns-nine, white-good, gray-parts, rgb-parts}
 use Rattle.encoding_curve.specs.declared.SupportedCurve.{SupportedCurve}
 use Rattle.encoding_curve.specs.declared.SupportedCurve.the-variants as Supported
 
@@ -117,38 +118,41 @@ module _ (w : JxlWhitePoint) (p : JxlPrimaries) (i : RenderingIntent) (r : InRan
 
 -- ---- the lengths of the files
 
-gray-most : (n : ℕ) (g : Bool) → n ≤ maxLetters → fileLength (slotsOf (record { kind = Gray; letters = n; gamma = g; cicp = false })) ≤ maxWritten
+gray-most : (n : ℕ) (g a : Bool) → n ≤ maxLetters → fileLength (slotsOf (record { kind = Gray; letters = n; gamma = g; cicp = false; adapted = a })) ≤ maxWritten
 unfolding slotsOf fileLength start bodySize tagCount padding
-gray-most n true h = omega arith
-gray-most n false h = omega arith
+gray-most n true true h = omega arith
+gray-most n true false h = omega arith
+gray-most n false true h = omega arith
+gray-most n false false h = omega arith
 
-gamma-most : (n : ℕ) → n ≤ maxLetters → fileLength (slotsOf (record { kind = Rgb; letters = n; gamma = true; cicp = false })) ≤ maxWritten
+gamma-most : (n : ℕ) → n ≤ maxLetters → fileLength (slotsOf (record { kind = Rgb; letters = n; gamma = true; cicp = false; adapted = false })) ≤ maxWritten
 unfolding slotsOf fileLength start bodySize tagCount padding
 gamma-most n h = omega arith
 
-named-file : (n : ℕ) (v : Bool) → n ≤ 326 → fileLength (slotsOf (record { kind = Rgb; letters = n; gamma = false; cicp = v })) ≤ maxWritten
+named-file : (n : ℕ) (v : Bool) → n ≤ 326 → fileLength (slotsOf (record { kind = Rgb; letters = n; gamma = false; cicp = v; adapted = false })) ≤ maxWritten
 unfolding slotsOf fileLength start bodySize tagCount padding
 named-file n true h = omega arith
 named-file n false h = omega arith
 
 rgb-most : (w : JxlWhitePoint) (p : JxlPrimaries) (n : ℕ) (c : Curve) → n ≤ mostLetters c
-    → fileLength (slotsOf (record { kind = Rgb; letters = n; gamma = isGamma c; cicp = hasCicp (cicpOf w p c) })) ≤ maxWritten
+    → fileLength (slotsOf (record { kind = Rgb; letters = n; gamma = isGamma c; cicp = hasCicp (cicpOf w p c); adapted = false })) ≤ maxWritten
 rgb-most w p n (Named m) h = named-file n (hasCicp (cicpOf w p (Named m))) h
 rgb-most w p n (Gamma g) h = gamma-most n h
 
 -- ---- every encoding
 
-pub at-most : (e : JxlColorEncoding) → HeldEncoding e → {p : Plan} → planOf e ≡ is p → length (layout p) ≤ maxWritten
-unfolding planOf slotsOf fileLength start bodySize tagCount padding
-at-most (GrayscaleColorSpace w t i) held {p} e =
-    let g = gray-parts w t i e in
-    rw (← g .plan-is, length-layout (grayPlan (GrayscaleColorSpace w t i) i (g .curve) (g .white)) tt)
-    (gray-most (length (description (GrayscaleColorSpace w t i))) (isGamma (g .curve)) (length-in-range (GrayscaleColorSpace w t i) held tt))
-at-most (RgbColorSpace w q t i) held {p} e =
-    let g = rgb-parts w q t i e in
+pub at-most : (a : Bool) (e : JxlColorEncoding) → HeldEncoding e → {p : Plan} → colorPlan a e ≡ is p → length (layout p) ≤ maxWritten
+unfolding colorPlan slotsOf fileLength start bodySize tagCount padding
+at-most a (GrayscaleColorSpace w t i) held {p} e =
+    let g = gray-parts a w t i e in
+    let nines = white-nines NumberInRange (g .white) (white-good a (whiteXy w) (g .white-is)) in
+    rw (← g .plan-is, length-layout (grayPlan (GrayscaleColorSpace w t i) i (g .curve) (g .white)) nines)
+    (gray-most (length (description (GrayscaleColorSpace w t i))) (isGamma (g .curve)) (isAdapted (g .white)) (length-in-range (GrayscaleColorSpace w t i) held tt))
+at-most a (RgbColorSpace w q t i) held {p} e =
+    let g = rgb-parts a w q t i e in
     let plan = rgbPlan (RgbColorSpace w q t i) i (g .curve) (cicpOf w q (g .curve)) (g .chad) (g .columns) in
     rw (← g .plan-is, length-layout plan (chad-nine (whiteXy w) (g .chad-is), columns-nine (primariesXy q) (whiteXy w) (g .columns-are)))
     (rgb-most w q (length (description (RgbColorSpace w q t i))) (g .curve) (rgb-letters w q i (white-in-range w (g .chad-is)) (g .curve-is) t held (g .support-is)))
-at-most (XYB i) held {p} e =
+at-most a (XYB i) held {p} e =
     let same : xybPlan i ≡ p = cc in
     rw (← same, length-layout (xybPlan i) tt) (lit≤ tt)

@@ -11,12 +11,14 @@ returns c = rw (c .enum-told .given .1) (record { told = λ k. refl; answer = re
 returns-2 : tie.Need-returns-2
 returns-2 c =
     let call = c .before .before .before in
-    rw (call .before .before .code .given .1) (code-measured (call .profile-length .ensures) (c .before .n .given .1))
+    let plain = call .before in
+    rw (plain .before .before .code .given .1) (code-measured (rw (plain .plain-encoding .ensures) at (call .profile-length .ensures)) (c .before .n .given .1))
 
 returns-3 : tie.Need-returns-3
 returns-3 c =
     let call = c .before .before .before in
-    rw (call .before .before .code .given .1) (code-measured (call .profile-length .ensures) (c .before .number .given .1))
+    let plain = call .before in
+    rw (plain .before .before .code .given .1) (code-measured (rw (plain .plain-encoding .ensures) at (call .profile-length .ensures)) (c .before .number .given .1))
 
 pub length-spec : {M : Type 1} → statement M
 length-spec =
@@ -25,6 +27,7 @@ length-spec =
     (λ c. search needs)
     (λ c. search needs)
     returns
+    (λ c κs. search needs)
     (λ c κs. search needs)
     (λ c. search needs)
     (λ c. search needs)

@@ -11,7 +11,9 @@ returns c = rw (c .enum-told .given .1) (record { measures = record { told = λ 
 returns-2 : tie.Need-returns-2
 returns-2 c =
     let call = c .before .before in
-    rw (call .before .before .code .given .1, c .answered .ensures .0, c .answered .ensures .1) (count-measured _ (call .profile-length .ensures))
+    let plain = call .before in
+    rw (plain .before .before .code .given .1, c .answered .ensures .0, c .answered .ensures .1)
+    (count-measured _ (rw (plain .plain-encoding .ensures) at (call .profile-length .ensures)))
 
 pub length-counted-spec : {M : Type 1} → statement M
 length-counted-spec =
@@ -20,6 +22,7 @@ length-counted-spec =
     (λ c. search needs)
     (λ c. search needs)
     returns
+    (λ c κs. search needs)
     (λ c κs. search needs)
     (λ c κs. search needs)
     returns-2)

@@ -22,13 +22,13 @@ xyb-plan-requires : tie.Need-xyb-plan-requires
 xyb-plan-requires c κs = search needs
 
 returns : tie.Need-returns
-returns c = rw (c .before .before .encoding .given .1) (c .rgb-plan .ensures)
+returns c = rw (c .before .before .encoding .given .1) (c .rgb-plan .ensures _)
 
 returns-2 : tie.Need-returns-2
 returns-2 c = rw (c .before .before .encoding2 .given .1) (c .gray-plan .ensures)
 
 returns-3 : tie.Need-returns-3
-returns-3 c = rw (c .before .before .encoding3 .given .1) (c .xyb-plan .ensures)
+returns-3 c = rw (c .before .before .encoding3 .given .1) (c .xyb-plan .ensures _)
 
 pub plan-of-spec : {M : Type 1} → statement M
 plan-of-spec =

@@ -1,4 +1,4 @@
--- `rgb_plan` meets its contract: each answer is that of the first check of `planOf` that refuses, or of the plan (`PlanOfLaws`) with its count.
+-- `rgb_plan` meets its contract: each answer is that of the first check of `colorPlan` that refuses, or of the plan (`PlanOfLaws`) with its count.
 use Prim.Native.Nat.{ℕ, _+_}
 use mathlib.Core.Path.{_≡_, sym, ap, ap₂, _∙_}
 use lib.Dec.{lit<}
@@ -108,36 +108,36 @@ rgb-numbers-requires : tie.Need-rgb-numbers-requires
 rgb-numbers-requires c κs = search needs
 
 returns : tie.Need-returns
-returns c =
+returns c adapted =
     let test = c .before in
     let numbers = test .before .before in
-    refused-as (c .refused2 .result) _ (c .refused2 .ensures) (test .if1 .taken)
-    (rgb-no-chad _ _ _ _ (curve-known numbers) (counted-refused _ _ (sym (simp (ne-eqb _ 0 (test .if1 .taken))) ∙ chad-is numbers)))
+    refused-as (c .refused2 .result) adapted _ (c .refused2 .ensures) (test .if1 .taken)
+    (rgb-no-chad adapted _ _ _ _ (curve-known numbers) (counted-refused _ _ (sym (simp (ne-eqb _ 0 (test .if1 .taken))) ∙ chad-is numbers)))
 
 returns-2 : tie.Need-returns-2
-returns-2 c =
+returns-2 c adapted =
     let test = c .before in
     let columns = test .before .before in
     let kept = chad columns in
-    refused-as (c .refused3 .result) _ (c .refused3 .ensures) (test .if2 .taken)
-    (rgb-no-columns _ _ _ _ (curve-known (kept .before .before)) (counted-value _ _ (chad-kept kept)) (counted-refused _ _ (sym (simp (ne-eqb _ 0 (test .if2 .taken))) ∙ columns-are columns)))
+    refused-as (c .refused3 .result) adapted _ (c .refused3 .ensures) (test .if2 .taken)
+    (rgb-no-columns adapted _ _ _ _ (curve-known (kept .before .before)) (counted-value _ _ (chad-kept kept)) (counted-refused _ _ (sym (simp (ne-eqb _ 0 (test .if2 .taken))) ∙ columns-are columns)))
 
 returns-3 : tie.Need-returns-3
-returns-3 c =
+returns-3 c adapted =
     let told = c .before in
-    refused-as (c .refused .result) _ (c .refused .ensures) (positive 1 (lit< tt)) (rgb-unsupported _ _ _ _ (sym (told .before .before .supported .ensures) ∙ ap checkedSupport (told .enum-told .given .1)))
+    refused-as (c .refused .result) adapted _ (c .refused .ensures) (positive 1 (lit< tt)) (rgb-unsupported adapted _ _ _ _ (sym (told .before .before .supported .ensures) ∙ ap checkedSupport (told .enum-told .given .1)))
 
 returns-4 : tie.Need-returns-4
-returns-4 c =
+returns-4 c adapted =
     let told = c .before in
     let curve = told .before .before in
     let columns = curve .before in
     let kept = chad (columns .before .before) in
-    refused-as (c .refused4 .result) _ (c .refused4 .ensures) (positive 8 (lit< tt))
-    (rgb-no-curve _ _ _ _ (curve-known (kept .before .before)) (counted-value _ _ (chad-kept kept)) (counted-value _ _ (columns-kept columns)) (counted-refused _ _ (sym (ap checkedCurve (told .enum-told2 .given .1)) ∙ curve .curve-of .ensures)))
+    refused-as (c .refused4 .result) adapted _ (c .refused4 .ensures) (positive 8 (lit< tt))
+    (rgb-no-curve adapted _ _ _ _ (curve-known (kept .before .before)) (counted-value _ _ (chad-kept kept)) (counted-value _ _ (columns-kept columns)) (counted-refused _ _ (sym (ap checkedCurve (told .enum-told2 .given .1)) ∙ curve .curve-of .ensures)))
 
 returns-5 : tie.Need-returns-5
-returns-5 c =
+returns-5 c adapted =
     let put = c .before .before in
     let number = put .before in
     let cicp = number .before .before .before in
@@ -151,12 +151,12 @@ returns-5 c =
     let s = call .before .before .before .named-or-gamma .given .0 .0 in
     let curve-is = sym (ap checkedCurve (known .curve .given .1)) ∙ curve .curve-of .ensures in
     rw (put .rgb-numbers .ensures, number .number .ensures, cicp .cicp-of .ensures)
-    (planned-as _
-    (rgb-plan _ _ _ _ (curve-known call) (counted-value _ _ (chad-kept kept)) (counted-value _ _ (columns-kept columns)) (counted-value _ _ curve-is))
+    (planned-as adapted _
+    (rgb-plan adapted _ _ _ _ (curve-known call) (counted-value _ _ (chad-kept kept)) (counted-value _ _ (columns-kept columns)) (counted-value _ _ curve-is))
     (ap₂ (λ (m n : ℕ). m + n)
     (ap₂ (λ (m n : ℕ). 2 + m + n) (counted-rounded (chadFloats w) (chadNumbers w) (chad-kept kept)) (counted-rounded (columnFloats p w) (columnNumbers p w) (columns-kept columns)))
     (counted-rounded (curveFloats s) (curveOf s) curve-is)
-    ∙ rgb-count _ _ _ (curve-known call) _))
+    ∙ rgb-count adapted _ _ _ (curve-known call) _))
 
 pub rgb-plan-spec : {M : Type 1} → statement M
 rgb-plan-spec =

@@ -5,7 +5,7 @@ use borrow.Author.Needs.{needs}
 use Rattle.buffer.specs.Checked.{is}
 use Rattle.color_encoding.specs.declared.JxlColorEncoding.the-variants.{XYB}
 use Rattle.profile.specs.Plan.{xyb, plainPlan}
-use Rattle.encoding_plan.specs.PlanOf.{planOf}
+use Rattle.encoding_plan.specs.PlanOf.{colorPlan}
 use Rattle.encoding_plan.specs.AnswersLaws.{planned-as}
 use Rattle.encoding_plan.specs.FixedFloatsLaws.{xyb-count}
 use Rattle.encoding_plan.proofs.xyb_plan.Statement.{statement}
@@ -18,11 +18,11 @@ xyb-numbers-requires : tie.Need-xyb-numbers-requires
 xyb-numbers-requires c κs = search needs
 
 returns : tie.Need-returns
-unfolding planOf
-returns c =
+unfolding colorPlan
+returns c adapted =
     let i = c .before .before .args .intent in
-    let planned : planOf (XYB i) ≡ is (plainPlan (c .before .number .result) xyb) = ap (λ (n : ℕ). is (plainPlan n xyb)) (sym (c .before .number .ensures)) in
-    rw (c .xyb-numbers .ensures) (planned-as (XYB i) planned (sym (xyb-count i)))
+    let planned : colorPlan adapted (XYB i) ≡ is (plainPlan (c .before .number .result) xyb) = ap (λ (n : ℕ). is (plainPlan n xyb)) (sym (c .before .number .ensures)) in
+    rw (c .xyb-numbers .ensures) (planned-as adapted (XYB i) planned (sym (xyb-count adapted i)))
 
 pub xyb-plan-spec : {M : Type 1} → statement M
 xyb-plan-spec = tie.close (tie.spec number-requires xyb-numbers-requires (λ c. search needs) returns)

@@ -8,7 +8,15 @@ use Rattle.fields.proofs.shape_in.Tie as tie
 
 returns : tie.Need-returns
 unfolding shapeFrom
-returns c = c .shape-by-sizes .ensures ∙ rw (c .before .enum-told .given .1)
+returns c =
+    let tags = c .before .before in
+    c .shape-by-sizes .ensures
+    ∙ rw (
+      tags .before .enum-told .given .1,
+      length-entries (tags .before .before .before .before .args .file .now),
+      c .before .gray-curve-line .ensures,
+      tags .tag-count .ensures,
+    )
 
 returns-2 : tie.Need-returns-2
 unfolding shapeFrom
@@ -19,7 +27,7 @@ returns-2 c =
       tags .before .enum-told2 .given .1,
       length-entries (tags .before .before .before .before .args .file .now),
       c .before .red-line .ensures .0,
-      tags .tag-count .ensures,
+      tags .tag-count2 .ensures,
     )
 
 returns-3 : tie.Need-returns-3
@@ -31,6 +39,8 @@ shape-in-spec =
     tie.close
     (tie.spec
     (λ c. search needs)
+    (λ c κs. search needs)
+    (λ c κs. search needs)
     (λ c κs. search needs)
     (λ c. search needs)
     (λ c κs. search needs)

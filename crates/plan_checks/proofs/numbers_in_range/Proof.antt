@@ -16,8 +16,8 @@ returns c =
     let z = c .before .before .before .before in
     let x = z .before .before in
     let plan = matrices .before .before .before .before .before .before .before .args .plan in
-    let x-fits : SFits w32 (plan .«white_x») = record { sfits = x .before .struct-told .given .1 .1 .1 .1 .1 .1 .0 .1 } in
-    let z-fits : SFits w32 (plan .«white_z») = record { sfits = z .before .struct-told2 .given .1 .1 .1 .1 .1 .1 .1 .0 .1 } in
+    let x-fits : SFits w32 (plan .«white_x») = record { sfits = x .before .struct-told .given .1 .1 .1 .1 .1 .1 .1 .0 .1 } in
+    let z-fits : SFits w32 (plan .«white_z») = record { sfits = z .before .struct-told2 .given .1 .1 .1 .1 .1 .1 .1 .1 .0 .1 } in
     c .both4 .ensures
     ∙ ap₂ _&&_ (c .before .curve-in-range .ensures)
     (c .before .before .both3 .ensures

@@ -1,4 +1,4 @@
--- The ten numbers of the array are those of the struct: the bits of a signed one are its two's complement. Assumes nothing.
+-- The eleven numbers of the array are those of the struct: the bits of a signed one are its two's complement. Assumes nothing.
 use mathlib.Core.Path.{ap, _∙_}
 use mir.Syntax.{w32}
 use mir.ValLaws.{toZ-ofZ}
@@ -37,8 +37,8 @@ returns c =
     let plan = gamma .before .before .before .args .plan in
     rw (
       gamma .i32-to-bits .ensures ∙ ap twosComplement32 (toZ-ofZ w32 (plan .gamma) (sfits-of (told .1 .1 .1 .1 .1 .1 .1 .0 .1))),
-      x .i32-to-bits2 .ensures ∙ ap twosComplement32 (toZ-ofZ w32 (plan .«white_x») (sfits-of (told .1 .1 .1 .1 .1 .1 .1 .1 .1 .0 .1))),
-      z .i32-to-bits3 .ensures ∙ ap twosComplement32 (toZ-ofZ w32 (plan .«white_z») (sfits-of (told .1 .1 .1 .1 .1 .1 .1 .1 .1 .1 .0 .1))),
+      x .i32-to-bits2 .ensures ∙ ap twosComplement32 (toZ-ofZ w32 (plan .«white_x») (sfits-of (told .1 .1 .1 .1 .1 .1 .1 .1 .1 .1 .0 .1))),
+      z .i32-to-bits3 .ensures ∙ ap twosComplement32 (toZ-ofZ w32 (plan .«white_z») (sfits-of (told .1 .1 .1 .1 .1 .1 .1 .1 .1 .1 .1 .0 .1))),
     ) at (call .put-u32s-le .ensures)
 
 pub put-first-spec : {M : Type 1} → statement M

@@ -1,6 +1,7 @@
 -- By the case of the kind.
 -- Assumes nothing.
 use borrow.Author.Needs.{needs}
+use Rattle.profile.specs.PlanLaws.{adapted-by}
 use Rattle.profile.proofs.shape_of.Statement.{statement}
 use Rattle.profile.proofs.shape_of.Tie as tie
 
@@ -23,7 +24,7 @@ enum-told-3 : tie.Need-enum-told-3
 enum-told-3 c = search needs
 
 returns : tie.Need-returns
-returns c text e = rw (c .before .enum-told .given .1, c .is-gamma .ensures, e)
+returns c text e = rw (c .before .enum-told .given .1, c .is-gamma .ensures, e, adapted-by)
 
 returns-2 : tie.Need-returns-2
 returns-2 c text e = rw (c .before .before .enum-told2 .given .1, c .before .is-gamma2 .ensures, c .has-cicp .ensures, e)

@@ -1,4 +1,4 @@
--- A refusal of `plan_of` is that of `planOf`. An accepted white is in range, so that the text is short enough (`WhiteLaws`), and what `layout`
+-- A refusal of `plan_of` is that of `colorPlan`. An accepted white is in range, so that the text is short enough (`WhiteLaws`), and what `layout`
 -- answers is the length of the plan's layout.
 use Prim.Native.Nat.{ℕ, _≤_}
 use mathlib.Core.Path.{_≡_, refl, sym, ap, _∙_}
@@ -17,7 +17,8 @@ use Rattle.profile.specs.Layout.{layout}
 use Rattle.profile.specs.LayoutLaws.{length-layout}
 use Rattle.numbers.specs.Rounded.{Counted}
 use Rattle.numbers.specs.RoundedLaws.{counted-value}
-use Rattle.encoding_plan.specs.FixedFloats.{fixedFloats, countedPlan}
+use Rattle.encoding_plan.specs.FixedFloats.{colorFloats, countedColorPlan}
+use Rattle.encoding_plan.specs.declared.Encoding.{Encoding}
 use Rattle.encoding_plan.specs.AnswersLaws.{plan-refused, plan-given}
 use Rattle.encoding_plan.specs.WhiteLaws.{planned-in-range}
 use Rattle.writer.specs.Writer.{answer}
@@ -26,7 +27,8 @@ use Rattle.writer.proofs.answer.Statement.{statement}
 use Rattle.writer.proofs.answer.Tie as tie
 
 -- the answer to a plan that is known
-by-plan : (s : tie.Start) {c : Checked (Counted Plan)} → countedPlan (s .args .encoding) ≡ c → answer (countedPlan (s .args .encoding)) (s .args .capacity) ≡ answer c (s .args .capacity)
+by-plan : (s : tie.Start) {c : Checked (Counted Plan)} → let e = s .args .encoding in
+    countedColorPlan (e .adapted) (e .color) ≡ c → answer (countedColorPlan (e .adapted) (e .color)) (s .args .capacity) ≡ answer c (s .args .capacity)
 by-plan s e = ap (λ (c : Checked (Counted Plan)). answer c (s .args .capacity)) e
 
 returns : tie.Need-returns
@@ -37,8 +39,11 @@ module _ (c : tie.Else1) where
   abbrev start : tie.Start
   start = c .before .before
 
+  abbrev encoding : Encoding
+  encoding = start .args .encoding
+
   abbrev text : List ℕ
-  text = description (start .args .encoding)
+  text = description (encoding .color)
 
   abbrev plan : Plan
   plan = Plans.planOf (start .args .planned .plan) text
@@ -46,13 +51,13 @@ module _ (c : tie.Else1) where
   abbrev with-count : Counted Plan
   with-count = record { value = plan; rounded = start .args .planned .rounded }
 
-  given : countedPlan (start .args .encoding) ≡ is with-count
+  given : countedColorPlan (encoding .adapted) (encoding .color) ≡ is with-count
   given = sym (start .pre) ∙ plan-given (start .args .planned) _ (c .if1 .left)
 
   few : shape plan .letters ≤ maxLetters
   few =
       letters-by (start .args .planned .plan) text
-      (length-in-range (start .args .encoding) (held-encoding (start .args .encoding) _ (start .good .0)) (planned-in-range _ (counted-value (fixedFloats (start .args .encoding)) _ (sym given))))
+      (length-in-range (encoding .color) (held-encoding (encoding .color) _ (start .good .0 .1 .1 .0)) (planned-in-range _ _ (counted-value (colorFloats (encoding .adapted) (encoding .color)) _ (sym given))))
 
   nines : Nines (plan .content)
   nines = nines-by (start .args .planned .plan) text (search needs) (search needs)
@@ -71,8 +76,8 @@ returns-2 c =
     let else = c .before .before .before .before .before in
     too-short (with-count else) _ _ (size (c .before)) (c .if2 .taken) ∙ sym (by-plan (start else) (given else))
 
-cast-t9 : tie.Need-cast-t9
-cast-t9 c = let else = c .before .before .before .before .before in short-layout (plan else) (nines else) (few else) (size (c .before))
+cast-t10 : tie.Need-cast-t10
+cast-t10 c = let else = c .before .before .before .before .before in short-layout (plan else) (nines else) (few else) (size (c .before))
 
 returns-3 : tie.Need-returns-3
 returns-3 c =
@@ -88,5 +93,5 @@ answer-spec =
     (λ c κs. search needs)
     length-requires
     returns-2
-    cast-t9
+    cast-t10
     returns-3)

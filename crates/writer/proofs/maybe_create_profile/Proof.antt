@@ -16,8 +16,8 @@ use Rattle.profile.specs.Layout.{layout}
 use Rattle.profile.specs.LayoutLaws.{length-device}
 use Rattle.buffer.specs.Checked.{is}
 use Rattle.numbers.specs.Rounded.{counted}
-use Rattle.encoding_plan.specs.PlanOf.{planOf}
-use Rattle.encoding_plan.specs.FixedFloats.{fixedFloats}
+use Rattle.encoding_plan.specs.PlanOf.{colorPlan}
+use Rattle.encoding_plan.specs.FixedFloats.{colorFloats}
 use Rattle.encoding_plan.specs.EncodingPlan.{encodingPlan}
 use Rattle.encoding_plan.specs.EncodingPlanLaws.{planned}
 use Rattle.encoding_plan.specs.declared.Encoding.{Encoding}
@@ -40,9 +40,9 @@ module _ (c : tie.After-answered) where
   abbrev encoding : Encoding
   encoding = start .args .encoding
 
-  -- of the color encoding
-  fits : Accepted (planOf (encoding .color)) (length (start .args .out .now)) (c .answered .given .0 .0)
-  fits = accepted (fixedFloats (encoding .color)) _ _ (sym (c .before .before .answer .ensures) ∙ c .answered .given .1)
+  -- of the color encoding, with its mark
+  fits : Accepted (colorPlan (encoding .adapted) (encoding .color)) (length (start .args .out .now)) (c .answered .given .0 .0)
+  fits = accepted (colorFloats (encoding .adapted) (encoding .color)) _ _ (sym (c .before .before .answer .ensures) ∙ c .answered .given .1)
 
   -- with maker and model
   fits-device : Accepted (encodingPlan encoding) (length (start .args .out .now)) (c .answered .given .0 .0)
@@ -56,7 +56,7 @@ module _ (c : tie.After-answered) where
 
   numbers-planned : Plans.planOf (c .before .before .before .plan-of .result .plan) (description (encoding .color)) ≡ fits .plan
   numbers-planned =
-      let floats = fixedFloats (encoding .color) in
+      let floats = colorFloats (encoding .adapted) (encoding .color) in
       same-plan (c .before .before .before .plan-of .result) (encoding .color) floats (c .before .before .before .plan-of .ensures ∙ ap (counted floats) (fits .is-plan))
 
 -- the numbers that are laid out are that plan's
@@ -74,7 +74,7 @@ laid c =
 put-profile-requires : tie.Need-put-profile-requires
 put-profile-requires c κs =
     let a = c .before .before .before in
-    (planned-in-range _ (fits a .is-plan), fits-device a .size-is ∙ ap (λ p. length (layout p)) (sym (laid (c .before))), fits-device a .room)
+    (planned-in-range _ _ (fits a .is-plan), fits-device a .size-is ∙ ap (λ p. length (layout p)) (sym (laid (c .before))), fits-device a .room)
 
 returns : tie.Need-returns
 returns c =
@@ -97,7 +97,7 @@ returns-2 c =
     let e = s .args .encoding in
     let any = call .answer .ensures ∙ sym (any-device e (length (s .args .out .now))) in
     created s
-    (record { answer = any; output = untouched (fixedFloats (e .color)) (encodingPlan e) (s .args .out .now) (sym any ∙ c .enum-told .given .1) })
+    (record { answer = any; output = untouched (colorFloats (e .adapted) (e .color)) (encodingPlan e) (s .args .out .now) (sym any ∙ c .enum-told .given .1) })
 
 pub maybe-create-profile-spec : {M : Type 1} → statement M
 maybe-create-profile-spec =
