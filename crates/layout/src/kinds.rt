@@ -41,10 +41,12 @@ fn put_color_elements(out: &mut [u8], at: usize, columns: [i32; 9], curve: Curve
 fn gray_white(plan: Numbers) -> [i32; 3]
     ensures { λ r. ⌜ r ≡ Layout.whiteNumbers (whiteOf plan) ⌝ }
 {
+    let own = [plan.white_x, WHITE_Y, plan.white_z];
+    let pcs = D50;
     if plan.adapted {
-        return D50;
+        return pcs;
     }
-    [plan.white_x, WHITE_Y, plan.white_z]
+    own
 }
 
 // The `chad` of a gray profile, if its white is adapted.
