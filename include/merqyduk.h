@@ -21,6 +21,12 @@
  * number, the first byte the most significant: 0x41434D45 is ACME. A call that writes and does not take them
  * writes zeros; so jobs and typed texts mean zeros.
  *
+ * Adapted. ICC.1:2022 wants the media white of a display profile, wtpt, to be D50, and the matrix that adapts the
+ * white of the device to it in chad. RGB profiles have both. A gray profile has its own white in wtpt and no chad,
+ * as jxl-rs writes it; with the mark `adapted` it has D50 and the chad of an RGB profile of the same white. Set the
+ * mark for viewers that go by ICC.1, and not where the bytes shall be those of jxl-rs. The description does not show
+ * it. A call that writes gray and does not take the mark means 0; so do jobs and typed texts.
+ *
  * Gamma is the exponent that encodes, as jxl-rs has it: the curve in the profile decodes, and is x^(1/gamma).
  * For a display gamma of 2.2 pass 1/2.2f, which is about 0.45455.
  *
@@ -50,9 +56,9 @@
 #include <string.h>
 
 #define MERQYDUK_VERSION_MAJOR 0
-#define MERQYDUK_VERSION_MINOR 16
+#define MERQYDUK_VERSION_MINOR 17
 #define MERQYDUK_VERSION_PATCH 0
-#define MERQYDUK_VERSION_STRING "0.16.0"
+#define MERQYDUK_VERSION_STRING "0.17.0"
 
 /* The lengths of the profiles that are written, in bytes. */
 #define MERQYDUK_MIN_PROFILE 284
@@ -169,7 +175,7 @@ static inline const char *merqyduk_refusal_text(uint32_t refusal) {
     case MERQYDUK_REFUSED_GRAY_WHITE:
         return "gray with |wy| below 1e-12";
     case MERQYDUK_REFUSED_RGB_WHITE:
-        return "RGB with a white outside 0 <= wx <= 1, 0 < wy <= 1, or one that cannot be adapted";
+        return "RGB, or gray adapted, with a white outside 0 <= wx <= 1, 0 < wy <= 1, or one that cannot be adapted";
     case MERQYDUK_REFUSED_ADAPTATION:
         return "a number of the chromatic adaptation does not fit";
     case MERQYDUK_REFUSED_PRIMARIES:
@@ -201,7 +207,7 @@ static inline const char *merqyduk_refusal_text(uint32_t refusal) {
     case MERQYDUK_REFUSED_JOB_LEFT:
         return "the job has bytes left after its third section";
     case MERQYDUK_REFUSED_MEANING:
-        return "a space, kind, curve or intent has no meaning";
+        return "a space, kind, curve, intent or mark has no meaning";
     case MERQYDUK_REFUSED_TEXT:
         return "the text is no description of an encoding";
     case MERQYDUK_REFUSED_ZERO_GAMMA:
@@ -258,7 +264,8 @@ uint32_t merqyduk_length_xyb(uint32_t intent, size_t capacity);
  * not. Looked at are, constants of the library included,
  *    RGB   26 numbers: 3 of wtpt, 9 of chad, 9 of the columns, 5 of the curve, which stands once for all colors;
  *          22 with a gamma, whose curve has 1
- *    gray  8 numbers: 3 of wtpt, 5 of the curve; 4 with a gamma
+ *    gray  8 numbers: 3 of wtpt, 5 of the curve; 4 with a gamma;
+ *          where it is adapted, 9 of chad besides: 17, and 13 with a gamma
  *    XYB   45 numbers: 3 of wtpt, 9 of chad, 30 of A2B0, 3 of B2A0
  * and not the white in the header. On every refusal *rounded is unchanged; the pointer must be valid even then. */
 uint32_t merqyduk_write_gray_counted(uint32_t white, float wx, float wy, uint32_t curve, float gamma, uint32_t intent,
@@ -279,10 +286,22 @@ uint32_t merqyduk_length_rgb_counted(uint32_t white, float wx, float wy, uint32_
 
 uint32_t merqyduk_length_xyb_counted(uint32_t intent, size_t capacity, uint32_t *rounded);
 
+/* Gray with the mark, with maker and model and with a count. `adapted` is 0 or 1; any other number is answered
+ * MERQYDUK_REFUSED_MEANING. With 0 the first call answers what merqyduk_write_gray_device answers and leaves the same output,
+ * the second answers what merqyduk_length_gray answers, and *rounded becomes what the two gray calls above make it. With 1 the
+ * profile has D50 in wtpt and, as the next element, the chad of an RGB profile of the same white; after 43 are tested 1, 4 and 5
+ * as for that RGB profile, 8 and 9. On every refusal *rounded is unchanged; the pointer must be valid even then. */
+uint32_t merqyduk_write_gray_adapted(uint32_t white, float wx, float wy, uint32_t curve, float gamma, uint32_t intent,
+                                     uint32_t adapted, uint32_t maker, uint32_t model, uint8_t *out, size_t out_len,
+                                     uint32_t *rounded);
+
+uint32_t merqyduk_length_gray_adapted(uint32_t white, float wx, float wy, uint32_t curve, float gamma, uint32_t intent,
+                                      uint32_t adapted, size_t capacity, uint32_t *rounded);
+
 /* ---- an encoding as one value */
 
 /* An encoding. A member that a space does not use is not read, and is 0 where a call fills the struct. Every space uses maker
- * and model; a call that fills the struct sets them to 0. */
+ * and model; a call that fills the struct sets them and the mark to 0. */
 struct merqyduk_encoding {
     uint32_t space;      /* MERQYDUK_SPACE_... */
     uint32_t white;      /* gray and RGB: MERQYDUK_WHITE_... */
@@ -293,15 +312,17 @@ struct merqyduk_encoding {
     float gamma;         /* of MERQYDUK_CURVE_GAMMA */
     uint32_t intent;     /* MERQYDUK_INTENT_... */
     uint32_t maker, model; /* any numbers */
+    uint32_t adapted;    /* gray: 1 or 0 */
 };
 
-/* What the call that writes this space with maker and model answers, and what the one that tells its length answers;
- * MERQYDUK_REFUSED_MEANING before all else where the space has no meaning. */
+/* What the call that writes this space with maker and model, gray with the mark, answers, and what the one that tells its
+ * length answers; MERQYDUK_REFUSED_MEANING before all else where the space has no meaning. */
 static inline uint32_t merqyduk_write(const struct merqyduk_encoding *e, uint8_t *out, size_t out_len) {
+    uint32_t rounded;
     switch (e->space) {
     case MERQYDUK_SPACE_GRAY:
-        return merqyduk_write_gray_device(e->white, e->wx, e->wy, e->curve, e->gamma, e->intent, e->maker, e->model,
-                                          out, out_len);
+        return merqyduk_write_gray_adapted(e->white, e->wx, e->wy, e->curve, e->gamma, e->intent, e->adapted, e->maker,
+                                           e->model, out, out_len, &rounded);
     case MERQYDUK_SPACE_RGB:
         return merqyduk_write_rgb_device(e->white, e->wx, e->wy, e->primaries, e->rx, e->ry, e->gx, e->gy, e->bx,
                                          e->by, e->curve, e->gamma, e->intent, e->maker, e->model, out, out_len);
@@ -313,9 +334,11 @@ static inline uint32_t merqyduk_write(const struct merqyduk_encoding *e, uint8_t
 }
 
 static inline uint32_t merqyduk_length(const struct merqyduk_encoding *e, size_t capacity) {
+    uint32_t rounded;
     switch (e->space) {
     case MERQYDUK_SPACE_GRAY:
-        return merqyduk_length_gray(e->white, e->wx, e->wy, e->curve, e->gamma, e->intent, capacity);
+        return merqyduk_length_gray_adapted(e->white, e->wx, e->wy, e->curve, e->gamma, e->intent, e->adapted, capacity,
+                                            &rounded);
     case MERQYDUK_SPACE_RGB:
         return merqyduk_length_rgb(e->white, e->wx, e->wy, e->primaries, e->rx, e->ry, e->gx, e->gy, e->bx, e->by,
                                    e->curve, e->gamma, e->intent, capacity);
@@ -330,7 +353,8 @@ static inline uint32_t merqyduk_length(const struct merqyduk_encoding *e, size_t
 static inline uint32_t merqyduk_length_counted(const struct merqyduk_encoding *e, size_t capacity, uint32_t *rounded) {
     switch (e->space) {
     case MERQYDUK_SPACE_GRAY:
-        return merqyduk_length_gray_counted(e->white, e->wx, e->wy, e->curve, e->gamma, e->intent, capacity, rounded);
+        return merqyduk_length_gray_adapted(e->white, e->wx, e->wy, e->curve, e->gamma, e->intent, e->adapted, capacity,
+                                            rounded);
     case MERQYDUK_SPACE_RGB:
         return merqyduk_length_rgb_counted(e->white, e->wx, e->wy, e->primaries, e->rx, e->ry, e->gx, e->gy, e->bx,
                                            e->by, e->curve, e->gamma, e->intent, capacity, rounded);
@@ -343,13 +367,14 @@ static inline uint32_t merqyduk_length_counted(const struct merqyduk_encoding *e
 
 static inline uint32_t merqyduk_write_counted(const struct merqyduk_encoding *e, uint8_t *out, size_t out_len,
                                               uint32_t *rounded) {
+    if (e->space == MERQYDUK_SPACE_GRAY)
+        return merqyduk_write_gray_adapted(e->white, e->wx, e->wy, e->curve, e->gamma, e->intent, e->adapted, e->maker,
+                                           e->model, out, out_len, rounded);
     if (e->maker != 0 || e->model != 0) {
         merqyduk_length_counted(e, out_len, rounded); /* the count does not depend on maker and model */
         return merqyduk_write(e, out, out_len);
     }
     switch (e->space) {
-    case MERQYDUK_SPACE_GRAY:
-        return merqyduk_write_gray_counted(e->white, e->wx, e->wy, e->curve, e->gamma, e->intent, out, out_len, rounded);
     case MERQYDUK_SPACE_RGB:
         return merqyduk_write_rgb_counted(e->white, e->wx, e->wy, e->primaries, e->rx, e->ry, e->gx, e->gy, e->bx,
                                           e->by, e->curve, e->gamma, e->intent, out, out_len, rounded);
@@ -362,7 +387,7 @@ static inline uint32_t merqyduk_write_counted(const struct merqyduk_encoding *e,
 
 /* A record is an encoding as MERQYDUK_ENCODING_SIZE bytes: the space, and then the 40 bytes of an RGB entry of a job:
  * white, wx, wy, primaries, rx, ry, gx, gy, bx, by, curve, gamma, intent; a number is one byte and a float its four bytes,
- * the most significant first. What the space does not use is 0. */
+ * the most significant first. What the space does not use is 0. Maker, model and mark are not in it. */
 
 static inline float merqyduk_record_float(const uint8_t *at) {
     const uint32_t bits = (uint32_t)at[0] << 24 | (uint32_t)at[1] << 16 | (uint32_t)at[2] << 8 | at[3];
@@ -391,6 +416,7 @@ static inline uint32_t merqyduk_encoding_from_record(const uint8_t *record, stru
     e->intent = record[40];
     e->maker = 0;
     e->model = 0;
+    e->adapted = 0;
     return 0;
 }
 
@@ -451,9 +477,10 @@ struct merqyduk_plan {
     uint32_t curve;      /* MERQYDUK_CURVE_... */
     int32_t gamma;       /* the fixed number of 1/gamma; 0 for a named curve */
     uint32_t cicp;       /* RGB: the ColourPrimaries value of the cicp tag; 0 where there is none */
-    int32_t white_x;     /* gray: X and Z of the white; its Y is 65536 */
+    uint32_t adapted;    /* gray: 1 where the white is adapted to D50, 0 where it is the encoding's own */
+    int32_t white_x;     /* gray that is not adapted: X and Z of the white; its Y is 65536 */
     int32_t white_z;
-    int32_t chad[9];     /* RGB: the chromatic adaptation, by rows */
+    int32_t chad[9];     /* RGB, and gray that is adapted: the chromatic adaptation, by rows */
     int32_t columns[9];  /* RGB: the red, the green and the blue column */
     uint32_t letters;    /* the letters of the text, at most 372 */
     uint8_t text[372];   /* ASCII, not NUL-terminated; 0 after the last letter */

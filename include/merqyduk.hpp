@@ -1,6 +1,6 @@
 // Merqyduk for C++11 and later: the calls of merqyduk.h with an encoding as one value. Header only; it throws nothing of
-// its own (a std::vector may run out of memory). merqyduk.h says what the answers, the id, maker and model, a gamma and the
-// count of rounded numbers mean.
+// its own (a std::vector may run out of memory). merqyduk.h says what the answers, the id, maker and model, the mark
+// `adapted`, a gamma and the count of rounded numbers mean.
 //
 //    auto profile = merqyduk::write(merqyduk::Encoding::srgb());
 //    if (profile) save(profile.data(), profile.size());
@@ -97,16 +97,20 @@ struct Encoding {
     Curve curve;         // of gray and RGB
     Intent intent;
     Device device;
+    bool adapted;        // of gray: D50 in the profile and chad, not the white alone
 
     static Encoding gray(White white, Curve curve, Intent intent, Device device = Device::none()) noexcept {
-        return {Kind::gray, white, Primaries::srgb(), curve, intent, device};
+        return {Kind::gray, white, Primaries::srgb(), curve, intent, device, false};
+    }
+    static Encoding gray_adapted(White white, Curve curve, Intent intent, Device device = Device::none()) noexcept {
+        return {Kind::gray, white, Primaries::srgb(), curve, intent, device, true};
     }
     static Encoding rgb(White white, Primaries primaries, Curve curve, Intent intent,
                         Device device = Device::none()) noexcept {
-        return {Kind::rgb, white, primaries, curve, intent, device};
+        return {Kind::rgb, white, primaries, curve, intent, device, false};
     }
     static Encoding xyb(Intent intent = Intent::perceptual, Device device = Device::none()) noexcept {
-        return {Kind::xyb, White::d65(), Primaries::srgb(), Curve::srgb(), intent, device};
+        return {Kind::xyb, White::d65(), Primaries::srgb(), Curve::srgb(), intent, device, false};
     }
     static Encoding srgb(Intent intent = Intent::perceptual, Device device = Device::none()) noexcept {
         return rgb(White::d65(), Primaries::srgb(), Curve::srgb(), intent, device);
@@ -191,7 +195,7 @@ inline merqyduk_encoding in_c(const Encoding &e) noexcept {
     // The kinds stand in the order of MERQYDUK_SPACE_..., from 0 on.
     return {static_cast<std::uint32_t>(e.kind) + MERQYDUK_SPACE_GRAY, e.white.kind, e.white.x, e.white.y,
             p.kind, p.rx, p.ry, p.gx, p.gy, p.bx, p.by, e.curve.kind, e.curve.gamma,
-            static_cast<std::uint32_t>(e.intent), e.device.maker, e.device.model};
+            static_cast<std::uint32_t>(e.intent), e.device.maker, e.device.model, e.adapted ? 1u : 0u};
 }
 
 // Into an output that the caller lends.
@@ -250,7 +254,8 @@ struct Parsed {
     const char *text() const noexcept { return merqyduk_refusal_text(refusal); }
 };
 
-// The text is a description, such as sRGB or RGB_D65_SRG_Rel_Lin: merqyduk.h has its language. Its encoding has no device.
+// The text is a description, such as sRGB or RGB_D65_SRG_Rel_Lin: merqyduk.h has its language. Its encoding has no device
+// and is not adapted.
 inline Parsed parse(const char *text, std::size_t text_len) noexcept {
     Parsed made = Parsed();
     merqyduk_encoding e;
