@@ -9,7 +9,7 @@
 enum { DEPTH = 16384, PAINT = 0xa5, LONG_DATA = 3000 };
 
 struct arguments {
-    uint32_t white, primaries, curve, intent, maker, model;
+    uint32_t white, primaries, curve, intent, maker, model, adapted;
     float floats[9]; /* wx wy rx ry gx gy bx by gamma */
     const uint8_t *job;
     size_t job_len, i;
@@ -97,6 +97,18 @@ static void rgb_device(struct arguments *a) {
 
 static void xyb_device(struct arguments *a) {
     merqyduk_write_xyb_device(a->intent, a->maker, a->model, a->out, sizeof a->out);
+}
+
+static uint32_t write_adapted(struct arguments *a) {
+    return merqyduk_write_gray_adapted(a->white, a->floats[0], a->floats[1], a->curve, a->floats[8], a->intent, a->adapted, a->maker,
+                                       a->model, a->out, sizeof a->out, &a->rounded);
+}
+
+static void gray_adapted(struct arguments *a) { write_adapted(a); }
+
+static void length_gray_adapted(struct arguments *a) {
+    merqyduk_length_gray_adapted(a->white, a->floats[0], a->floats[1], a->curve, a->floats[8], a->intent, a->adapted, sizeof a->out,
+                                 &a->rounded);
 }
 
 static void job(struct arguments *a) {
@@ -230,6 +242,8 @@ int main(void) {
                  {"merqyduk_write_gray_device", gray_device},
                  {"merqyduk_write_rgb_device", rgb_device},
                  {"merqyduk_write_xyb_device", xyb_device},
+                 {"merqyduk_write_gray_adapted", gray_adapted},
+                 {"merqyduk_length_gray_adapted", length_gray_adapted},
                  {"merqyduk_job", job},
                  {"merqyduk_job_profile", job_profile},
                  {"merqyduk_read", read_plan},
@@ -255,10 +269,12 @@ int main(void) {
         a.intent = random_bits() % 4;
         a.maker = random_bits();
         a.model = random_bits();
+        a.adapted = random_bits() % 2;
         for (int i = 0; i < 9; i++) a.floats[i] = random_float();
         a.i = random_bits() % 4;
         fill_job(&a, bytes);
-        uint32_t length = merqyduk_job_profile(bytes, sizeof bytes, a.i, a.out, sizeof a.out);
+        /* The job has three entries; in place of a fourth, gray with the mark or without. */
+        uint32_t length = a.i == 3 ? write_adapted(&a) : merqyduk_job_profile(bytes, sizeof bytes, a.i, a.out, sizeof a.out);
         if (length >= MERQYDUK_MIN_PROFILE) {
             memcpy(a.file, a.out, length);
             a.file_len = length;

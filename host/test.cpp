@@ -5,7 +5,8 @@
 // description. Makes each call also with a count of numbers that were rounded, and counts them once more by their floats. Writes each profile with
 // other makers and models, which change their own bytes and the id alone, and reads it back. Reads each also with zeros in place of the id, which are
 // accepted, and with other bytes there, which are not. Holds XYB of each intent against the Perceptual file with that intent, its text and its id put
-// in. Writes the accepted profiles into the folder that it is given.
+// in, and gray adapted to D50 against files laid out here from parts: of the gray file that is not adapted and an RGB file of the same white, and of
+// numbers and letters made here. Writes the accepted profiles into the folder that it is given.
 #include "merqyduk.h"
 
 #include <sys/mman.h>
@@ -36,7 +37,7 @@ struct Device {
 };
 
 // A call that writes, and, for an encoding, the one that answers the same without an output; then both with a count, and how many fixed numbers
-// of the profile are looked at for it; and the one that writes with maker and model.
+// of the profile are looked at for it; the one that writes with maker and model, and, where there is one, that with both and a count.
 struct Call {
     std::function<uint32_t(uint8_t *, size_t)> write;
     std::function<uint32_t(size_t)> length;
@@ -44,6 +45,7 @@ struct Call {
     std::function<uint32_t(size_t, uint32_t *)> length_counted;
     uint32_t numbers;
     std::function<uint32_t(Device, uint8_t *, size_t)> write_device;
+    std::function<uint32_t(Device, uint8_t *, size_t, uint32_t *)> write_device_counted = nullptr;
     uint32_t operator()(uint8_t *out, size_t n) const { return write(out, n); }
 };
 
@@ -71,6 +73,31 @@ Call gray(uint32_t white, float wx, float wy, uint32_t curve, float gamma, uint3
             [=](Device device, uint8_t *out, size_t n) {
                 return merqyduk_write_gray_device(white, wx, wy, curve, gamma, intent, device.maker, device.model, out, n);
             }};
+}
+
+// By the calls that take the mark, which may be any number.
+Call adapted_gray(uint32_t adapted, uint32_t white, float wx, float wy, uint32_t curve, float gamma, uint32_t intent) {
+    const auto write = [=](Device device, uint8_t *out, size_t n, uint32_t *rounded) {
+        return merqyduk_write_gray_adapted(white, wx, wy, curve, gamma, intent, adapted, device.maker, device.model, out, n, rounded);
+    };
+    const auto length = [=](size_t n, uint32_t *rounded) {
+        return merqyduk_length_gray_adapted(white, wx, wy, curve, gamma, intent, adapted, n, rounded);
+    };
+    const auto write_device = [=](Device device, uint8_t *out, size_t n) {
+        uint32_t rounded;
+        return write(device, out, n, &rounded);
+    };
+    const auto length_alone = [=](size_t n) {
+        uint32_t rounded;
+        return length(n, &rounded);
+    };
+    return {[=](uint8_t *out, size_t n) { return write_device({0, 0}, out, n); },
+            length_alone,
+            [=](uint8_t *out, size_t n, uint32_t *rounded) { return write({0, 0}, out, n, rounded); },
+            length,
+            (adapted == 1 ? 12u : 3u) + (curve == MERQYDUK_CURVE_GAMMA ? 1u : 5u),
+            write_device,
+            write};
 }
 
 struct Primaries {
@@ -303,12 +330,17 @@ void same_counted(const std::string &name, uint32_t answer, const Call &call, co
     expect(std::equal(left, left + n, out.data()), name + ", counted, leaves the same output");
 }
 
-// The call with maker and model answers the same. What it leaves in an output of its own differs by these and the id alone.
+// The call with maker and model answers the same. What it leaves in an output of its own differs by these and the id alone; so with a count.
 void same_device(const std::string &name, uint32_t answer, const Call &call, Device device, const uint8_t *left, size_t n, bool at_end) {
     Guarded out(n, at_end);
     expect(call.write_device(device, out.data(), n) == answer, name + " with maker and model answered " + std::to_string(answer));
     const Bytes expected = left_with(Bytes(left, left + n), answer, device);
     expect(std::equal(expected.begin(), expected.end(), out.data()), name + " with maker and model leaves the same output else");
+    if (!call.write_device_counted) return;
+    Guarded counted(n, at_end);
+    has_count(name + " with maker and model", answer, call,
+              [&](uint32_t *count) { return call.write_device_counted(device, counted.data(), n, count); });
+    expect(std::equal(expected.begin(), expected.end(), counted.data()), name + " with maker and model, counted, leaves the same output else");
 }
 
 // The other calls that write the encoding: with a count, and with maker and model, zeros and others each time.
@@ -389,21 +421,22 @@ std::string text(const std::vector<uint8_t> &f) {
 // ---- a profile read back
 
 // The struct as `planRecord` of crates/plan_record lays it out.
-const size_t plan_size = 488;
+const size_t plan_size = 492;
 static_assert(sizeof(merqyduk_plan) == plan_size, "the size of the struct");
 static_assert(offsetof(merqyduk_plan, kind) == 0 && offsetof(merqyduk_plan, intent) == 4, "kind and intent");
 static_assert(offsetof(merqyduk_plan, maker) == 8 && offsetof(merqyduk_plan, model) == 12, "maker and model");
-static_assert(offsetof(merqyduk_plan, id_not_computed) == 16, "the mark");
+static_assert(offsetof(merqyduk_plan, id_not_computed) == 16, "the mark of a file without its id");
 static_assert(offsetof(merqyduk_plan, curve) == 20 && offsetof(merqyduk_plan, gamma) == 24, "the curve");
-static_assert(offsetof(merqyduk_plan, cicp) == 28, "cicp");
-static_assert(offsetof(merqyduk_plan, white_x) == 32 && offsetof(merqyduk_plan, white_z) == 36, "the white");
-static_assert(offsetof(merqyduk_plan, chad) == 40 && offsetof(merqyduk_plan, columns) == 76, "chad and columns");
-static_assert(offsetof(merqyduk_plan, letters) == 112 && offsetof(merqyduk_plan, text) == 116, "the text");
+static_assert(offsetof(merqyduk_plan, cicp) == 28 && offsetof(merqyduk_plan, adapted) == 32, "cicp and the mark of gray");
+static_assert(offsetof(merqyduk_plan, white_x) == 36 && offsetof(merqyduk_plan, white_z) == 40, "the white");
+static_assert(offsetof(merqyduk_plan, chad) == 44 && offsetof(merqyduk_plan, columns) == 80, "chad and columns");
+static_assert(offsetof(merqyduk_plan, letters) == 116 && offsetof(merqyduk_plan, text) == 120, "the text");
 
 // What was asked of the writer, and whether zeros were put in place of the id then. The kinds are gray 1, RGB 2 and XYB 3.
 struct Asked {
     uint32_t kind, intent, curve;
     float gamma;
+    bool adapted = false;
     Device device = {0, 0};
     bool id_not_computed = false;
 };
@@ -436,7 +469,8 @@ merqyduk_plan plan_of(const Bytes &f, const Asked &asked) {
         plan.gamma = int32_t(std::lround(double(1.0f / asked.gamma) * 65536));
     Bytes cicp = element(f, "cicp");
     if (!cicp.empty()) plan.cicp = cicp[8];
-    if (asked.kind == 1) {
+    plan.adapted = asked.adapted ? 1 : 0;
+    if (asked.kind == 1 && !asked.adapted) {
         const std::vector<int32_t> white = nine(numbers_of(f, "wtpt"));
         plan.white_x = white[0];
         plan.white_z = white[2];
@@ -464,7 +498,7 @@ void reads(const std::string &name, const Bytes &f, const Asked &asked) {
     expect(merqyduk_read(f.data(), f.size(), nullptr, 0) == 9, name + " read into no record");
     for (bool at_end : {false, true}) {
         auto file = guarded(f, at_end);
-        for (size_t n : {size_t(0), size_t(1), size_t(116), plan_size - 1}) {
+        for (size_t n : {size_t(0), size_t(1), size_t(120), plan_size - 1}) {
             Guarded record(n, at_end);
             expect(merqyduk_read(file->data(), f.size(), record.data(), n) == 9, name + " read into a short record");
             expect(record.unchanged_from(0), name + " leaves a short record unchanged");
@@ -1146,19 +1180,19 @@ void vast_lengths(const Bytes &f) {
     expect(std::equal(f.begin(), f.end(), lent) && lent[f.size()] == 0, "and its bytes");
 }
 
-// The profile of sRGB in such an output, written with a count, with maker and model, and without.
-void vast_output(const Bytes &srgb, const Call &call) {
+// A profile in such an output, written with a count, with maker and model, and without.
+void vast_output(const std::string &name, const Bytes &f, const Call &call) {
     const size_t length = (size_t(1) << 32) + 5;
     Vast vast;
     uint8_t *lent = vast.cleared();
-    expect(call(lent, length) == srgb.size(), "sRGB in a vast output");
-    expect(std::equal(srgb.begin(), srgb.end(), lent) && lent[srgb.size()] == 0, "and its bytes");
+    expect(call(lent, length) == f.size(), name + " in a vast output");
+    expect(std::equal(f.begin(), f.end(), lent) && lent[f.size()] == 0, "and its bytes");
     lent = vast.cleared();
-    has_count("sRGB in a vast output", uint32_t(srgb.size()), call, [&](uint32_t *count) { return call.write_counted(lent, length, count); });
-    expect(std::equal(srgb.begin(), srgb.end(), lent) && lent[srgb.size()] == 0, "and its bytes, counted");
+    has_count(name + " in a vast output", uint32_t(f.size()), call, [&](uint32_t *count) { return call.write_counted(lent, length, count); });
+    expect(std::equal(f.begin(), f.end(), lent) && lent[f.size()] == 0, "and its bytes, counted");
     lent = vast.cleared();
-    const Bytes its = with_device(srgb, acme);
-    expect(call.write_device(acme, lent, length) == its.size(), "sRGB with maker and model in a vast output");
+    const Bytes its = with_device(f, acme);
+    expect(call.write_device(acme, lent, length) == its.size(), name + " with maker and model in a vast output");
     expect(std::equal(its.begin(), its.end(), lent) && lent[its.size()] == 0, "and its bytes, with maker and model");
 }
 
@@ -1278,7 +1312,7 @@ void bad_jobs() {
 
 using Encoding = merqyduk_encoding;
 
-static_assert(sizeof(Encoding) == 64, "the struct has no gaps, so that its bytes can be compared");
+static_assert(sizeof(Encoding) == 68, "the struct has no gaps, so that its bytes can be compared");
 
 float float_of(uint32_t bits) {
     float value;
@@ -1298,7 +1332,7 @@ Encoding with_device(Encoding e, Device device) {
     return e;
 }
 
-// The bytes of a record as `encodingRecord` of crates/encoding_record has them. Maker and model are not in it.
+// The bytes of a record as `encodingRecord` of crates/encoding_record has them. Maker, model and mark are not in it.
 Bytes record_of(const Encoding &e) {
     Bytes record;
     auto number = [&](uint32_t n) { record.push_back(uint8_t(n)); };
@@ -1320,8 +1354,10 @@ Bytes record_of(const Encoding &e) {
     return record;
 }
 
-// The calls that write the encoding and tell its length, with the numbers of the struct but for maker and model.
+// The calls that write the encoding and tell its length, with the numbers of the struct but for maker and model. The calls that take the mark are
+// those of gray with a mark alone.
 Call call_of(const Encoding &e) {
+    if (e.space == MERQYDUK_SPACE_GRAY && e.adapted != 0) return adapted_gray(e.adapted, e.white, e.wx, e.wy, e.curve, e.gamma, e.intent);
     if (e.space == MERQYDUK_SPACE_GRAY) return gray(e.white, e.wx, e.wy, e.curve, e.gamma, e.intent);
     if (e.space == MERQYDUK_SPACE_XYB) return xyb(e.intent);
     return rgb(e.white, e.wx, e.wy, e.primaries, {e.rx, e.ry, e.gx, e.gy, e.bx, e.by}, e.curve, e.gamma, e.intent);
@@ -1392,15 +1428,9 @@ void same_struct(const std::string &name, uint32_t answer, const Call &call, con
     has_count(name + " told", answer, call, [&](uint32_t *count) { return merqyduk_length_counted(&e, n, count); });
 }
 
-// The encoding from a text writes what the calls write that are given the same numbers, and tells the same lengths.
-void parses(const std::string &text, const Encoding &expected) {
-    const std::string name = shown(text);
-    answers(text, 0, record_of(expected));
-    Encoding e;
-    std::memset(&e, 0xa5, sizeof e);
-    expect(merqyduk_parse(text.data(), text.size(), &e) == 0, name + " is read");
-    expect(std::memcmp(&e, &expected, sizeof e) == 0, name + " has the encoding that was meant");
-    const Call call = call_of(expected);
+// The struct writes what the calls write that are given the same numbers, with other makers and models too, and tells the same lengths.
+void writes_struct(const std::string &name, const Encoding &e) {
+    const Call call = call_of(e);
     Bytes direct(1300, 7);
     const uint32_t length = call(direct.data(), 1200);
     for (size_t n : {size_t(0), size_t(length) - 1, size_t(length), size_t(1200)}) {
@@ -1410,6 +1440,17 @@ void parses(const std::string &text, const Encoding &expected) {
             same_struct(name, answer, call, with_device(e, device), left_with(direct, answer, device), n);
     }
     expect(merqyduk_length(&e, SIZE_MAX) == length, name + " tells its length without a bound");
+}
+
+// The encoding from a text is the one that was meant, and writes its profile.
+void parses(const std::string &text, const Encoding &expected) {
+    const std::string name = shown(text);
+    answers(text, 0, record_of(expected));
+    Encoding e;
+    std::memset(&e, 0xa5, sizeof e);
+    expect(merqyduk_parse(text.data(), text.size(), &e) == 0, name + " is read");
+    expect(std::memcmp(&e, &expected, sizeof e) == 0, name + " has the encoding that was meant");
+    writes_struct(name, e);
 }
 
 const char *const white_names[] = {"D65", "EER", "DCI"};
@@ -1721,6 +1762,22 @@ void no_descriptions() {
 
 // ---- the struct by itself
 
+Call struct_call(const Encoding &e) {
+    return {[=](uint8_t *out, size_t n) { return merqyduk_write(&e, out, n); },
+            [=](size_t n) { return merqyduk_length(&e, n); },
+            [=](uint8_t *out, size_t n, uint32_t *count) { return merqyduk_write_counted(&e, out, n, count); },
+            [=](size_t n, uint32_t *count) { return merqyduk_length_counted(&e, n, count); },
+            0,
+            [=](Device device, uint8_t *out, size_t n) {
+                const Encoding its = with_device(e, device);
+                return merqyduk_write(&its, out, n);
+            },
+            [=](Device device, uint8_t *out, size_t n, uint32_t *count) {
+                const Encoding its = with_device(e, device);
+                return merqyduk_write_counted(&its, out, n, count);
+            }};
+}
+
 void encoding_structs() {
     Encoding e, before;
     std::memset(&e, 0xa5, sizeof e);
@@ -1732,22 +1789,15 @@ void encoding_structs() {
         e = before;
         const bool known = space >= 1 && space <= 3;
         expect(merqyduk_encoding_from_record(record.data(), &e) == (known ? 0u : 43u), "a record of space " + std::to_string(space));
-        if (known) expect(record_of(e) == record && e.maker == 0 && e.model == 0, "a record has all its bytes in the struct");
+        if (known) expect(record_of(e) == record && e.maker == 0 && e.model == 0 && e.adapted == 0, "a record has all its bytes in the struct");
         else expect(std::memcmp(&e, &before, sizeof e) == 0, "a record without meaning leaves the struct unchanged");
     }
     // Without a meaning is first the space, even where the other numbers have none.
     for (uint32_t space : {0u, 4u, 255u, 257u, 0xffffffffu}) {
         for (uint32_t other : {0u, 9u}) {
             e = named(space, other, other, other, other);
-            refuses("a struct of space " + std::to_string(space), 43,
-                    {[=](uint8_t *out, size_t n) { return merqyduk_write(&e, out, n); },
-                     [=](size_t n) { return merqyduk_length(&e, n); },
-                     [=](uint8_t *out, size_t n, uint32_t *count) { return merqyduk_write_counted(&e, out, n, count); },
-                     [=](size_t n, uint32_t *count) { return merqyduk_length_counted(&e, n, count); }, 0,
-                     [=](Device device, uint8_t *out, size_t n) {
-                         const Encoding its = with_device(e, device);
-                         return merqyduk_write(&its, out, n);
-                     }});
+            e.adapted = other;
+            refuses("a struct of space " + std::to_string(space), 43, struct_call(e));
         }
     }
     // What a space does not use is not read.
@@ -1763,6 +1813,19 @@ void encoding_structs() {
     }
     e = named(MERQYDUK_SPACE_RGB, 0, 9, 2, 1);
     tells_length("RGB with primaries that have no meaning", 43);
+    // The mark is read for gray alone.
+    for (uint32_t adapted : {1u, 2u, 0xffffffffu}) {
+        e = named(MERQYDUK_SPACE_RGB, 0, 0, 2, 0);
+        e.adapted = adapted;
+        tells_length("RGB with a mark", 504);
+        e = named(MERQYDUK_SPACE_XYB, 0, 0, 0, 0);
+        e.adapted = adapted;
+        tells_length("XYB with a mark", 720);
+        e = named(MERQYDUK_SPACE_GRAY, 0, 0, 2, 1);
+        e.adapted = adapted;
+        if (adapted == 1) tells_length("gray with a mark", 384);
+        else refuses("a struct of gray with the mark " + std::to_string(adapted), 43, struct_call(e));
+    }
 }
 
 void typed_texts() {
@@ -1811,6 +1874,7 @@ Floats curve_floats(uint32_t curve, float gamma) {
     }
 }
 
+// Of gray that is not adapted.
 Floats gray_floats(const Encoding &e) {
     const Floats white = white_of(e);
     const float factor = 1.0f / white[1];
@@ -1893,11 +1957,16 @@ void narrow(const Matrix &m, Floats &floats) {
 
 const Floats d50 = {0.964203f, 1, 0.824905f};
 
-Floats rgb_floats(const Encoding &e) {
-    const Vector white = white_xyz(white_of(e));
+// D50, and the adaptation to it.
+Floats adapted_floats(const Encoding &e) {
     Floats floats = d50;
-    narrow(adaptation(white), floats);
-    narrow(columns_of(primaries_of(e), white), floats);
+    narrow(adaptation(white_xyz(white_of(e))), floats);
+    return floats;
+}
+
+Floats rgb_floats(const Encoding &e) {
+    Floats floats = adapted_floats(e);
+    narrow(columns_of(primaries_of(e), white_xyz(white_of(e))), floats);
     return floats;
 }
 
@@ -1909,8 +1978,7 @@ Floats xyb_floats() {
     const float scales[] = {first, first, last}, bias = 0.0037930732552754493f, root = float(std::cbrt(double(bias)));
     const Matrix matrix = {Vector{1.5170095, -1.1065225, 0.071623}, Vector{-0.050022, 0.5683655, -0.018344},
                            Vector{-1.387676, 1.1145555, 0.6857255}};
-    Floats floats = d50;
-    narrow(adaptation(white_xyz(white_of(named(MERQYDUK_SPACE_XYB, MERQYDUK_WHITE_D65, 0, 0, 0)))), floats);
+    Floats floats = adapted_floats(named(MERQYDUK_SPACE_XYB, MERQYDUK_WHITE_D65, 0, 0, 0));
     floats.insert(floats.end(), 3, 1);
     for (size_t i = 0; i < 3; i++) {
         const float b = -offsets[i] + root;
@@ -1924,7 +1992,7 @@ Floats xyb_floats() {
 
 Floats floats_of(const Encoding &e) {
     if (e.space == MERQYDUK_SPACE_XYB) return xyb_floats();
-    Floats floats = e.space == MERQYDUK_SPACE_GRAY ? gray_floats(e) : rgb_floats(e);
+    Floats floats = e.space == MERQYDUK_SPACE_RGB ? rgb_floats(e) : e.adapted == 1 ? adapted_floats(e) : gray_floats(e);
     for (float value : curve_floats(e.curve, e.gamma)) floats.push_back(value);
     return floats;
 }
@@ -2024,6 +2092,8 @@ void named_counts() {
                 Encoding e = named(MERQYDUK_SPACE_GRAY, white, 0, curve, intent);
                 e.gamma = 0.45f;
                 expect(counted_right(e, seen), "the count of a named gray white");
+                e.adapted = 1;
+                expect(counted_right(e, seen), "the count of a named gray white that is adapted");
                 for (e.space = MERQYDUK_SPACE_RGB; e.primaries < 3; e.primaries++) expect(counted_right(e, seen), "the count of named primaries");
             }
             expect(counted_right(named(MERQYDUK_SPACE_XYB, 0, 0, curve, intent), seen), "the count of XYB");
@@ -2036,10 +2106,10 @@ void named_counts() {
 }
 
 // Encodings of a space by chance: coordinates and gammas in range, of few digits, so that some are whole, near zero, so that others become large, and
-// any.
+// any. Those of gray have the mark or have it not.
 class Chance {
   public:
-    explicit Chance(uint32_t space) : space_(space), state_(space) {}
+    Chance(uint32_t space, uint32_t adapted) : space_(space), adapted_(adapted), state_(space + 3 * adapted) {}
 
     uint32_t below(size_t n) {
         state_ = state_ * 6364136223846793005u + 1442695040888963407u;
@@ -2052,6 +2122,7 @@ class Chance {
         if (below(2) == 0) e.primaries = below(3);
         if (below(2) == 0) e.curve = below(6);
         for (float Encoding::*member : float_members()) e.*member = number();
+        e.adapted = adapted_;
         return e;
     }
 
@@ -2067,25 +2138,29 @@ class Chance {
         }
     }
 
-    uint32_t space_;
+    uint32_t space_, adapted_;
     uint64_t state_;
 };
 
-void counts_by_chance(uint32_t space, const std::vector<uint32_t> &counts) {
-    Chance chance(space);
+// A space and its mark, as a message shows them.
+std::string shown(uint32_t space, uint32_t adapted) { return "space " + std::to_string(space) + " with the mark " + std::to_string(adapted); }
+
+void counts_by_chance(uint32_t space, uint32_t adapted, const std::vector<uint32_t> &counts) {
+    Chance chance(space, adapted);
     std::map<uint32_t, int> seen;
     bool all_right = true;
     for (uint32_t n = 0; n < 200000; n++) all_right = counted_right(chance.encoding(n % 4), seen) && all_right;
-    expect(all_right, "counts by chance in space " + std::to_string(space));
+    expect(all_right, "counts by chance in " + shown(space, adapted));
     for (uint32_t count : counts)
-        expect(seen[count] > 20, "encodings by chance of space " + std::to_string(space) + " with the count " + std::to_string(count));
+        expect(seen[count] > 20, "encodings by chance of " + shown(space, adapted) + " with the count " + std::to_string(count));
 }
 
 void numbers_that_were_rounded() {
     known_gray_counts();
     named_counts();
-    counts_by_chance(MERQYDUK_SPACE_GRAY, {0, 1, 2, 3, 5, 6, 7});
-    counts_by_chance(MERQYDUK_SPACE_RGB, {11, 12, 13, 14, 15, 16, 17, 18, 19, 20, 21, 22, 23, 24, 25});
+    counts_by_chance(MERQYDUK_SPACE_GRAY, 0, {0, 1, 2, 3, 5, 6, 7});
+    counts_by_chance(MERQYDUK_SPACE_GRAY, 1, {10, 11, 12, 13, 14, 15, 16});
+    counts_by_chance(MERQYDUK_SPACE_RGB, 0, {11, 12, 13, 14, 15, 16, 17, 18, 19, 20, 21, 22, 23, 24, 25});
 }
 
 // ---- maker and model by chance
@@ -2107,19 +2182,20 @@ bool device_right(const Call &call, Device device, std::map<uint32_t, int> &answ
     return std::memcmp(&plan, &its_plan, sizeof plan) == 0 && id_right(its, next_id_bit());
 }
 
-// Each of `some` is answered at times, and 2 never.
-void devices_by_chance(uint32_t space, const std::vector<uint32_t> &some) {
-    Chance chance(space);
+// Each of `some` is answered at times, and each of `none` never.
+void devices_by_chance(uint32_t space, uint32_t adapted, const std::vector<uint32_t> &some, const std::vector<uint32_t> &none) {
+    Chance chance(space, adapted);
     std::map<uint32_t, int> answers;
     bool all_right = true;
     for (uint32_t n = 0; n < 20000; n++) {
         const Call call = call_of(chance.encoding(n % 4));
         all_right = device_right(call, {chance.any(), chance.any()}, answers) && all_right;
     }
-    expect(all_right, "maker and model by chance in space " + std::to_string(space));
+    expect(all_right, "maker and model by chance in " + shown(space, adapted));
     for (uint32_t answer : some)
-        expect(answers[answer] > 20, "encodings by chance of space " + std::to_string(space) + " answered " + std::to_string(answer));
-    expect(answers.count(2) == 0, "no encoding by chance of space " + std::to_string(space) + " answered 2");
+        expect(answers[answer] > 20, "encodings by chance of " + shown(space, adapted) + " answered " + std::to_string(answer));
+    for (uint32_t answer : none)
+        expect(answers.count(answer) == 0, "no encoding by chance of " + shown(space, adapted) + " answered " + std::to_string(answer));
 }
 
 // What the call with maker and model writes.
@@ -2253,6 +2329,406 @@ void xyb_intents(const std::vector<Bytes> &files) {
     }
 }
 
+// ---- gray adapted to D50
+
+const uint32_t wtpt = 0x77747074, chad = 0x63686164;
+
+// What the finder finds.
+Bytes found(const Bytes &f, uint32_t signature) {
+    uint32_t offset = 0;
+    const uint32_t size = merqyduk_find(f.data(), f.size(), signature, &offset);
+    return Bytes(f.begin() + offset, f.begin() + offset + size);
+}
+
+using Elements = std::vector<std::pair<std::string, Bytes>>;
+
+// A file with this header, but for the size and the id, and with these tags and elements.
+Bytes laid_out(const Bytes &header, const Elements &elements) {
+    Bytes f(header.begin(), header.begin() + 128);
+    f.resize(132 + 12 * elements.size());
+    f = with_number(f, 128, int32_t(elements.size()));
+    size_t line = 132;
+    for (const auto &one : elements) {
+        std::copy(one.first.begin(), one.first.end(), f.begin() + line);
+        f = with_number(with_number(f, line + 4, int32_t(f.size())), line + 8, int32_t(one.second.size()));
+        f.insert(f.end(), one.second.begin(), one.second.end());
+        f.resize((f.size() + 3) / 4 * 4);
+        line += 12;
+    }
+    return with_id(with_number(f, 0, int32_t(f.size())));
+}
+
+Elements elements_of(const Bytes &f, const std::vector<std::string> &signatures) {
+    Elements all;
+    for (const std::string &signature : signatures) all.push_back({signature, element(f, signature.c_str())});
+    return all;
+}
+
+const std::vector<std::string> adapted_tags = {"desc", "cprt", "wtpt", "chad", "kTRC"};
+
+// The adapted file from parts of a gray file that is not adapted and of an RGB file of the same white.
+Bytes spliced(const Bytes &gray_file, const Bytes &rgb_file) {
+    Elements all = elements_of(gray_file, adapted_tags);
+    for (size_t i : {2, 3}) all[i].second = element(rgb_file, adapted_tags[i].c_str());
+    return laid_out(gray_file, all);
+}
+
+// An element: four letters, four zero bytes, and numbers.
+Bytes element_from(const std::string &type, const std::vector<int32_t> &numbers) {
+    Bytes e(type.begin(), type.end());
+    e.resize(8 + 4 * numbers.size());
+    for (size_t i = 0; i < numbers.size(); i++) e = with_number(e, 8 + 4 * i, numbers[i]);
+    return e;
+}
+
+// A text as `mluc` with one record, of 12 bytes, in English for the United States.
+Bytes text_element(const std::string &letters) {
+    Bytes e = element_from("mluc", {1, 12, 0x656e5553, int32_t(2 * letters.size()), 28});
+    for (char letter : letters) e.insert(e.end(), {0, uint8_t(letter)});
+    return e;
+}
+
+// The C library rounds to the nearest, ties to the even digit.
+std::string seven_decimals(float value) {
+    char letters[64];
+    std::snprintf(letters, sizeof letters, "%.7f", double(value));
+    return letters;
+}
+
+// The description of a gray encoding.
+std::string description_of(const Encoding &e) {
+    const std::string white = e.white == MERQYDUK_WHITE_OWN ? seven_decimals(e.wx) + ";" + seven_decimals(e.wy) : white_names[e.white];
+    const std::string curve = e.curve == MERQYDUK_CURVE_GAMMA ? "g" + seven_decimals(e.gamma) : curve_names[e.curve];
+    return "Gra_" + white + "_" + intent_names[e.intent] + "_" + curve;
+}
+
+// The adapted file by numbers and letters made here. Header, copyright and curve are those of gray D65 with the same curve and intent.
+Bytes by_hand(const Encoding &e) {
+    const Bytes d65 = written(gray(MERQYDUK_WHITE_D65, 0, 0, e.curve, e.gamma, e.intent), {0, 0});
+    std::vector<int32_t> numbers;
+    for (float value : adapted_floats(e)) numbers.push_back(int32_t(std::lround(double(value) * 65536)));
+    return laid_out(d65, {{"desc", text_element(description_of(e))},
+                          {"cprt", element(d65, "cprt")},
+                          {"wtpt", element_from("XYZ ", {63190, 65536, 54061})},
+                          {"chad", element_from("sf32", {numbers.begin() + 3, numbers.end()})},
+                          {"kTRC", element(d65, "kTRC")}});
+}
+
+Encoding adapted_encoding(uint32_t white, float wx, float wy, uint32_t curve, float gamma, uint32_t intent) {
+    Encoding e = named(MERQYDUK_SPACE_GRAY, white, 0, curve, intent);
+    e.wx = wx;
+    e.wy = wy;
+    e.gamma = gamma;
+    e.adapted = 1;
+    return e;
+}
+
+Encoding not_adapted(Encoding e) {
+    e.adapted = 0;
+    return e;
+}
+
+// As RGB with the primaries of sRGB.
+Encoding as_rgb(Encoding e) {
+    e.space = MERQYDUK_SPACE_RGB;
+    e.primaries = MERQYDUK_PRIMARIES_SRGB;
+    return e;
+}
+
+uint32_t answer_of(const Encoding &e) { return call_of(e).length(SIZE_MAX); }
+
+Asked asked_of(const Encoding &e) { return {1, e.intent, e.curve, e.gamma, e.adapted == 1}; }
+
+// An adapted file in all ways. Where gray that is not adapted and RGB accept the white too, it is put together from their files as well.
+Bytes adapted_profile(const std::string &name, const Encoding &e) {
+    const Bytes expected = by_hand(e);
+    const Bytes f = profile(name, uint32_t(expected.size()), call_of(e), asked_of(e));
+    expect(f == expected, name + " is the file made by hand");
+    expect(found(f, wtpt) == element_from("XYZ ", {63190, 65536, 54061}), name + " has D50 for its white");
+    expect(found(f, chad).size() == 44, name + " has its adaptation");
+    writes_struct(name, e);
+    const Bytes plain = written(call_of(not_adapted(e)), {0, 0}), rgb_file = written(call_of(as_rgb(e)), {0, 0});
+    if (plain.size() < MERQYDUK_MIN_PROFILE || rgb_file.size() < MERQYDUK_MIN_PROFILE) return f;
+    expect(f == spliced(plain, rgb_file), name + " is gray with the white and the adaptation of RGB");
+    expect(f.size() == plain.size() + 56, name + " has a line of the table and an element more");
+    expect(found(f, chad) == found(rgb_file, chad), name + " has the adaptation of RGB");
+    return f;
+}
+
+void adapted_profiles() {
+    const float endless = std::numeric_limits<float>::infinity();
+    const struct {
+        uint32_t kind;
+        float x, y;
+    } whites[] = {{0, 0, 0}, {1, 0, 0}, {2, 0, 0}, {3, 0.3457f, 0.3585f}, {3, 0.25f, 0.5f}, {3, 0, 1}, {3, 1, 1}};
+    const struct {
+        uint32_t kind;
+        float gamma;
+    } curves[] = {{0, 0}, {1, 0}, {2, 0}, {4, 0}, {6, 0.45f}, {6, -2.5f}, {6, endless}};
+    for (const auto &white : whites)
+        for (const auto &curve : curves)
+            for (uint32_t intent = 0; intent < 4; intent++) {
+                const Encoding e = adapted_encoding(white.kind, white.x, white.y, curve.kind, curve.gamma, intent);
+                adapted_profile("adapted " + description_of(e), e);
+            }
+    // Whites at the ends of what is accepted. Gray that is not adapted refuses all but the last by 3 or 7.
+    const float least = std::numeric_limits<float>::denorm_min();
+    const struct {
+        uint32_t plain;
+        float x, y;
+    } ends[] = {{3, 0, least}, {3, 1, least}, {3, 0.3f, 1e-13f}, {7, 0, 1e-12f}, {7, 1, 1e-10f}, {360, -0.0f, 0.5f}};
+    for (const auto &white : ends) {
+        const Encoding e = adapted_encoding(MERQYDUK_WHITE_OWN, white.x, white.y, MERQYDUK_CURVE_SRGB, 0, 0);
+        expect(answer_of(not_adapted(e)) == white.plain, description_of(e) + " answered " + std::to_string(white.plain));
+        adapted_profile("adapted " + description_of(e), e);
+    }
+}
+
+// What applies to the white comes after 43 and 1, and before what applies to the gamma. RGB of the same white is refused by the same number.
+void refuses_white(uint32_t number, float x, float y) {
+    const std::string name = "adapted white " + std::to_string(x) + " " + std::to_string(y);
+    for (uint32_t curve : {0u, 1u, 2u, 4u, 6u})
+        for (float gamma : {0.45f, 0.0f}) refuses(name, number, adapted_gray(1, 3, x, y, curve, gamma, 1));
+    for (uint32_t curve : {3u, 5u}) refuses(name + " with PQ or HLG", 1, adapted_gray(1, 3, x, y, curve, 0, 1));
+    expect(answer_of(as_rgb(adapted_encoding(3, x, y, 2, 0, 1))) == number, name + " is refused so in RGB");
+    expect(answer_of(adapted_encoding(0, x, y, 2, 0, 1)) == 384, name + " is not read for D65");
+}
+
+void adapted_refusals() {
+    const float endless = std::numeric_limits<float>::infinity(), nan = std::numeric_limits<float>::quiet_NaN();
+    const float least = std::numeric_limits<float>::denorm_min(), past = std::nextafter(1.0f, 2.0f);
+    for (float bad : {-least, -0.1f, past, 2.0f, -endless, endless, nan}) {
+        refuses_white(4, bad, 0.3f);
+        refuses_white(4, 0.3f, bad);
+    }
+    for (float zero : {0.0f, -0.0f}) refuses_white(4, 0.3f, zero);
+    // One of the three cone responses is zero, and nearly zero.
+    refuses_white(4, float_of(0x3a391c00), float_of(0x3ec04627));
+    refuses_white(5, float_of(0x3a391c00), float_of(0x3ec04628));
+    refuses_white(5, float_of(0x3a391bff), float_of(0x3ec04627));
+    for (uint32_t curve : {3u, 5u}) refuses("adapted PQ or HLG", 1, adapted_gray(1, 0, 0, 0, curve, 0, 1));
+    for (float gamma : {0.0f, -0.0f, 1.0f / 32768, nan}) refuses("adapted gamma " + std::to_string(gamma), 8, adapted_gray(1, 0, 0, 0, 6, gamma, 0));
+    // 43 comes before all else, with the mark and without.
+    for (uint32_t adapted : {0u, 1u}) {
+        refuses("adapted white 4", 43, adapted_gray(adapted, 4, 0, 0, 3, 0, 0));
+        refuses("adapted curve 7", 43, adapted_gray(adapted, 3, 0, 0, 7, 0, 0));
+        refuses("adapted intent 4", 43, adapted_gray(adapted, 3, 0, 0, 3, 0, 4));
+    }
+    for (uint32_t adapted : {2u, 3u, 4u, 255u, 256u, 257u, 0x10001u, 0x80000000u, 0x80000001u, 0xffffffffu}) {
+        const std::string name = "the mark " + std::to_string(adapted);
+        for (uint32_t curve = 0; curve < 8; curve++) refuses(name, 43, adapted_gray(adapted, 0, 0, 0, curve, 0.45f, 1));
+        refuses(name + " with wy 0", 43, adapted_gray(adapted, 3, 0.3f, 0, 2, 0, 1));
+        refuses(name + " with gamma 0", 43, adapted_gray(adapted, 0, 0, 0, 6, 0, 1));
+        refuses(name + " with white 4", 43, adapted_gray(adapted, 4, 0, 0, 2, 0, 1));
+        refuses(name + " with intent 4", 43, adapted_gray(adapted, 0, 0, 0, 2, 0, 4));
+    }
+}
+
+// ---- the same by chance
+
+// The answer to an adapted encoding in an output that has room: 1, 4 and 5 are RGB's, and 8 is that of gray D65 with the same curve.
+uint32_t adapted_answer(const Encoding &e) {
+    const uint32_t of_rgb = answer_of(as_rgb(e));
+    if (of_rgb == 1 || of_rgb == 4 || of_rgb == 5) return of_rgb;
+    const uint32_t of_curve = answer_of(not_adapted(adapted_encoding(MERQYDUK_WHITE_D65, 0, 0, e.curve, e.gamma, e.intent)));
+    return of_curve < MERQYDUK_MIN_PROFILE ? of_curve : uint32_t(by_hand(e).size());
+}
+
+// Whether the call answers so, and writes the file made by hand or nothing; and whether the file is read as its plan. The answers are counted.
+bool adapted_right(const Encoding &e, Device device, std::map<uint32_t, int> &answers) {
+    const uint32_t answer = adapted_answer(e);
+    Bytes out(1300, 7), left = out;
+    answers[answer]++;
+    if (answer >= MERQYDUK_MIN_PROFILE) {
+        const Bytes f = with_device(by_hand(e), device);
+        std::copy(f.begin(), f.end(), left.begin());
+    }
+    if (call_of(e).write_device(device, out.data(), 1200) != answer || out != left) return false;
+    if (answer < MERQYDUK_MIN_PROFILE) return true;
+    out.resize(answer);
+    Asked asked = asked_of(e);
+    asked.device = device;
+    const merqyduk_plan expected = plan_of(out, asked);
+    merqyduk_plan plan;
+    return merqyduk_read(out.data(), out.size(), &plan, sizeof plan) == 0 && std::memcmp(&plan, &expected, sizeof plan) == 0;
+}
+
+// Whether the calls that take the mark, with 0 for it, answer, write and count as those that do not take it.
+bool zero_mark_right(const Encoding &e, Device device, size_t n) {
+    const Call plain = call_of(not_adapted(e)), zero = adapted_gray(0, e.white, e.wx, e.wy, e.curve, e.gamma, e.intent);
+    Bytes left(1300, 7), out = left;
+    uint32_t counts[3] = {77, 77, 77}, told = 77;
+    const uint32_t answer = plain.write_device(device, left.data(), n);
+    if (plain.length_counted(n, &counts[0]) != answer || zero.length_counted(n, &counts[1]) != answer) return false;
+    if (zero.write_device_counted(device, out.data(), n, &counts[2]) != answer || out != left) return false;
+    Bytes counted(1300, 7);
+    return plain.write_counted(counted.data(), n, &told) == answer && counts[0] == told && counts[1] == told && counts[2] == told;
+}
+
+void adapted_by_chance() {
+    Chance chance(MERQYDUK_SPACE_GRAY, 1);
+    std::map<uint32_t, int> answers;
+    bool all_right = true, zeros_right = true;
+    for (uint32_t n = 0; n < 50000; n++) {
+        const Encoding e = chance.encoding(n % 4);
+        const Device device = {chance.any(), chance.any()};
+        all_right = adapted_right(e, device, answers) && all_right;
+        zeros_right = zero_mark_right(e, device, n % 2 == 0 ? 1200 : chance.below(500)) && zeros_right;
+    }
+    // Whites near one for which a cone response is zero, so that some are refused 4 and 5, and others have large numbers.
+    for (int n = 0; n < 2000; n++) {
+        const float x = float_of(0x3a391c00 + chance.below(64) - 32), y = float_of(0x3ec04627 + chance.below(2048) - 1024);
+        all_right = adapted_right(adapted_encoding(MERQYDUK_WHITE_OWN, x, y, n % 3 == 0 ? 6 : 2, 0.45f, 1), acme, answers) && all_right;
+    }
+    expect(all_right, "adapted gray by chance");
+    expect(zeros_right, "gray by chance with the mark 0");
+    for (uint32_t answer : {1u, 4u, 5u, 8u}) expect(answers[answer] > 20, "adapted gray by chance answered " + std::to_string(answer));
+}
+
+// ---- gray files, adapted and not, changed
+
+// What the reader answers where a byte past the header of a gray file is another, and the id is right: letters and free numbers may be others.
+uint32_t body_answer(const Bytes &f, const Bytes &changed, size_t at) {
+    if (at < 132 + 12 * size_t(word(f, 128))) return 25;
+    const size_t text_at = word(f, 136) + 28, text_end = word(f, 136) + word(f, 140);
+    if (at >= text_at && at < text_end) return (at - text_at) % 2 == 1 && changed[at] < 128 ? 0 : 26;
+    // The last line of the table is the curve's, whose number stands 12 bytes from its start on where it has 16.
+    const size_t last = 132 + 12 * (size_t(word(f, 128)) - 1), curve = word(f, last + 4), white = word(f, 160);
+    std::vector<size_t> numbers;
+    if (word(f, last + 8) == 16) numbers.push_back(curve + 12);
+    if (word(f, 128) == 4) numbers.insert(numbers.end(), {white + 8, white + 16});
+    else for (size_t i = 0; i < 9; i++) numbers.push_back(word(f, 172) + 8 + 4 * i);
+    for (size_t number : numbers)
+        if (at >= number && at < number + 4) return std::abs(int64_t(int32_t(word(changed, number)))) <= 2147483264 ? 0 : 27;
+    return 26;
+}
+
+// Each bit past the header changed, by the id that the file then has and without one.
+void gray_bits(const Bytes &f, Asked asked) {
+    std::map<uint32_t, int> answers;
+    bool all_right = true;
+    for (size_t bit = 8 * 128; bit < 8 * f.size(); bit++) {
+        const Bytes changed = with_id(with_bit(f, bit));
+        const uint32_t answer = body_answer(f, changed, bit / 8);
+        answers[answer]++;
+        for (bool no_id : {false, true}) {
+            const Bytes file = no_id ? without_id(changed) : changed;
+            asked.id_not_computed = no_id;
+            merqyduk_plan plan, expected;
+            std::memset(&plan, 0xa5, sizeof plan);
+            expected = plan;
+            if (answer == 0) expected = plan_of(file, asked);
+            if (answer == 0 && asked.curve == MERQYDUK_CURVE_GAMMA) expected.gamma = int32_t(word(element(file, "kTRC"), 12));
+            all_right = all_right && merqyduk_read(file.data(), file.size(), &plan, sizeof plan) == answer &&
+                        std::memcmp(&plan, &expected, sizeof plan) == 0;
+        }
+    }
+    expect(all_right, "each bit past the header of " + text(f));
+    for (uint32_t answer : {0u, 25u, 26u}) expect(answers[answer] > 100, "bits of " + text(f) + " answered " + std::to_string(answer));
+}
+
+// By its right id, without one and by another.
+void refuses_adapted(const std::string &name, uint32_t number, const Bytes &f) {
+    refuses_file(name, number, f);
+    refuses_file(name + " without an id", number, without_id(f));
+    refuses_file(name + " with another id", number, with_bit(f, next_id_bit()));
+}
+
+// The elements of adapted gray with other tags, and of RGB and adapted gray under the header of the other.
+void other_tables(const Bytes &f, const Bytes &plain, const Bytes &srgb) {
+    const std::vector<std::vector<std::string>> tables = {
+        {"desc", "cprt", "chad", "wtpt", "kTRC"}, {"desc", "cprt", "wtpt", "kTRC", "chad"}, {"desc", "wtpt", "chad", "cprt", "kTRC"},
+        {"chad", "desc", "cprt", "wtpt", "kTRC"}, {"desc", "cprt", "wtpt", "chad"},         {"desc", "cprt", "chad", "kTRC"},
+        {"desc", "cprt", "chad", "chad", "kTRC"}, {"desc", "cprt", "wtpt", "wtpt", "kTRC"}, {"desc", "cprt", "wtpt", "chad", "chad", "kTRC"},
+        {"desc", "cprt", "wtpt", "chad", "kTRC", "kTRC"}};
+    for (const auto &tags : tables) refuses_adapted("other tags", 25, laid_out(f, elements_of(f, tags)));
+    refuses_adapted("four tags of five", 25, with_id(with(f, 131, 4)));
+    refuses_adapted("five tags of four", 25, with_id(with(plain, 131, 5)));
+    expect(laid_out(f, elements_of(f, adapted_tags)) == f, "its own tags");
+    const auto with_space = [](Bytes file, const std::string &space) {
+        std::copy(space.begin(), space.end(), file.begin() + 16);
+        return with_id(file);
+    };
+    refuses_adapted("adapted gray in an RGB header", 25, with_space(f, "RGB "));
+    refuses_adapted("RGB in a gray header", 25, with_space(srgb, "GRAY"));
+}
+
+// Numbers of `wtpt` are D50's and no others, and numbers of `chad` are free in their range.
+void other_numbers(const Bytes &f, const Bytes &plain, Asked asked) {
+    const size_t white = word(f, 160) + 8, matrix = word(f, 172) + 8;
+    Elements own = elements_of(f, adapted_tags);
+    own[2].second = element(plain, "wtpt");
+    refuses_adapted("its own white beside chad", 26, laid_out(f, own));
+    for (size_t i = 0; i < 3; i++)
+        for (int32_t by : {-1, 1}) refuses_adapted("a number beside D50's", 26, with_id(with_number(f, white + 4 * i, int32_t(word(f, white + 4 * i)) + by)));
+    refuses_adapted("another type of chad", 26, with_id(with(f, matrix - 8, 'x')));
+    for (size_t i = 0; i < 9; i++) {
+        for (int32_t number : {2147483265, -2147483265, 2147483647, std::numeric_limits<int32_t>::min()})
+            refuses_adapted("a number of chad out of its range", 27, with_id(with_number(f, matrix + 4 * i, number)));
+        for (int32_t number : {2147483264, -2147483264, 0, -1}) {
+            const Bytes other = with_number(f, matrix + 4 * i, number);
+            reads("another number of chad", with_id(other), asked);
+            id_of_another("another number of chad", other);
+        }
+    }
+    // Gray that is not adapted may have D50 for its white.
+    asked.adapted = false;
+    reads("gray with D50 for its own white", with_id(with_number(with_number(plain, white_at(plain), 63190), white_at(plain) + 8, 54061)), asked);
+}
+
+// Gray D65 Relative SRGB, 384 bytes.
+void adapted_files(const Bytes &f, const Bytes &plain, const Bytes &srgb) {
+    const Encoding e = adapted_encoding(MERQYDUK_WHITE_D65, 0, 0, MERQYDUK_CURVE_SRGB, 0, MERQYDUK_INTENT_RELATIVE);
+    const Encoding with_gamma = adapted_encoding(MERQYDUK_WHITE_DCI, 0, 0, MERQYDUK_CURVE_GAMMA, 0.45f, MERQYDUK_INTENT_ABSOLUTE);
+    uint32_t offset = 0;
+    expect(merqyduk_find(f.data(), f.size(), wtpt, &offset) == 20 && offset == 288, "the white in adapted gray");
+    expect(merqyduk_find(f.data(), f.size(), chad, &offset) == 44 && offset == 308, "chad in adapted gray");
+    expect(merqyduk_find(plain.data(), plain.size(), chad, &offset) == 0 && offset == 308, "no chad in gray that is not adapted");
+    expect(found(f, chad) == found(srgb, chad), "chad of sRGB");
+    for (const Encoding &one : {e, with_gamma, not_adapted(e), not_adapted(with_gamma)}) {
+        const Bytes file = written(call_of(one), {0, 0});
+        header_bits(file, 1);
+        gray_bits(file, asked_of(one));
+    }
+    other_tables(f, plain, srgb);
+    other_numbers(f, plain, asked_of(e));
+    for (const Device &device : {Device{0, 0}, acme}) {
+        const Bytes file = with_device(f, device);
+        bad_ids(file);
+        for (const Bytes &one : {file, without_id(file)}) {
+            put_into_segments("adapted gray", one);
+            good_segments("adapted gray", one);
+        }
+    }
+    for (size_t letters : {size_t(1), size_t(2), size_t(372)}) {
+        const Bytes other = with_letters(f, letters);
+        reads("adapted gray with another text", other, asked_of(e));
+        put_into_segments("adapted gray with another text", other);
+    }
+    bad_segments(f);
+    changed_fronts(f);
+    segments_by_chance(f);
+    vast_output("adapted gray", f, call_of(e));
+}
+
+// The calls that take the mark, with 0 for it, are those that do not take it.
+void zero_mark(const Bytes &plain) {
+    expect(profile("gray with the mark 0", uint32_t(plain.size()), adapted_gray(0, 0, 0, 0, 2, 0, 1), {1, 1, 2, 0}) == plain,
+           "gray with the mark 0 is gray");
+    for (uint32_t white = 0; white < 4; white++)
+        for (uint32_t curve = 0; curve < 7; curve++)
+            for (uint32_t intent = 0; intent < 4; intent++) {
+                Encoding e = adapted_encoding(white, 0.3457f, 0.3585f, curve, 0.45f, intent);
+                bool all_right = true;
+                for (size_t n = 0; n <= 500; n++) all_right = zero_mark_right(e, next_device(), n) && all_right;
+                expect(all_right, description_of(e) + " with the mark 0 in outputs of all lengths");
+            }
+    refuses("gray wy 0 with the mark 0", 3, adapted_gray(0, 3, 0.3f, 0, 2, 0, 0));
+    refuses("gray (0, 1e-12) with the mark 0", 7, adapted_gray(0, 3, 0, 1e-12f, 2, 0, 0));
+    refuses("gamma 0 with the mark 0", 8, adapted_gray(0, 0, 0, 0, 6, 0, 0));
+    refuses("HLG with the mark 0", 1, adapted_gray(0, 0, 0, 0, 5, 0, 1));
+}
+
 void save(const std::string &folder, const std::string &name, const std::vector<uint8_t> &profile) {
     std::string path = folder + "/" + name + ".icc";
     FILE *file = std::fopen(path.c_str(), "wb");
@@ -2279,6 +2755,8 @@ int main(int argc, char **argv) {
     save(folder, "srgb-relative", profile("sRGB Relative", 536, rgb(0, 0, 0, 0, none, 2, 0, 1), {2, 1, 2, 0}));
     auto gray_d65 = profile("gray", 328, gray(0, 0, 0, 2, 0, 1), {1, 1, 2, 0});
     save(folder, "gray", gray_d65);
+    auto adapted_d65 = profile("adapted gray", 384, adapted_gray(1, 0, 0, 0, 2, 0, 1), {1, 1, 2, 0, true});
+    save(folder, "gray-adapted", adapted_d65);
     const char *const xyb_names[] = {"xyb", "xyb-relative", "xyb-saturation", "xyb-absolute"};
     std::vector<Bytes> xyb_files;
     for (uint32_t intent = 0; intent < 4; intent++) {
@@ -2330,11 +2808,13 @@ int main(int argc, char **argv) {
     // For other programs to show maker and model.
     save(folder, "srgb-device", written(rgb(0, 0, 0, 0, none, 2, 0, 0), acme));
     save(folder, "gray-device", written(gray(0, 0, 0, 2, 0, 1), acme));
+    save(folder, "gray-adapted-device", written(adapted_gray(1, 0, 0, 0, 2, 0, 1), acme));
     save(folder, "xyb-device", written(xyb(0), acme));
 
     // And profiles without an id.
     save(folder, "srgb-no-id", without_id(srgb));
     save(folder, "gray-no-id", without_id(gray_d65));
+    save(folder, "gray-adapted-no-id", without_id(adapted_d65));
     save(folder, "xyb-no-id", without_id(xyb_perceptual));
 
     for (const Device &device : {Device{0, 0}, acme}) {
@@ -2344,17 +2824,22 @@ int main(int argc, char **argv) {
         ids(rgb_file, gray_file, xyb_file);
     }
     header_bits(srgb, 2);
-    header_bits(gray_d65, 1);
     segments(srgb, gray_d65, xyb_perceptual);
     xyb_intents(xyb_files);
+    adapted_profiles();
+    adapted_refusals();
+    adapted_by_chance();
+    adapted_files(adapted_d65, gray_d65, srgb);
+    zero_mark(gray_d65);
     good_jobs(srgb, xyb_files[MERQYDUK_INTENT_RELATIVE]);
     bad_jobs();
     typed_texts();
-    vast_output(srgb, rgb(0, 0, 0, 0, none, 2, 0, 0));
+    vast_output("sRGB", srgb, rgb(0, 0, 0, 0, none, 2, 0, 0));
     numbers_that_were_rounded();
-    devices_by_chance(MERQYDUK_SPACE_GRAY, {1, 3, 7, 8});
-    devices_by_chance(MERQYDUK_SPACE_RGB, {1, 4, 7, 8});
-    devices_by_chance(MERQYDUK_SPACE_XYB, {720});
+    devices_by_chance(MERQYDUK_SPACE_GRAY, 0, {1, 3, 7, 8}, {2, 4, 5, 6});
+    devices_by_chance(MERQYDUK_SPACE_GRAY, 1, {1, 4, 8}, {2, 3, 6, 7});
+    devices_by_chance(MERQYDUK_SPACE_RGB, 0, {1, 4, 7, 8}, {2, 3});
+    devices_by_chance(MERQYDUK_SPACE_XYB, 0, {720}, {1, 2, 3, 4, 5, 6, 7, 8});
 
     std::printf("%d of %d\n", tried - failed, tried);
     return failed == 0 ? 0 : 1;

@@ -83,6 +83,11 @@ void encodings() {
                     answer = merqyduk_write_gray_device(w, 0.3457f, 0.3585f, c, 0.45f, i, d.maker, d.model, out, sizeof out);
                     same("gray of a device " + name, Encoding::gray(whites[w], curves[c], intent, d), answer, out, count);
                 }
+                for (const Device &d : devices) {
+                    count = held;
+                    answer = merqyduk_write_gray_adapted(w, 0.3457f, 0.3585f, c, 0.45f, i, 1, d.maker, d.model, out, sizeof out, &count);
+                    same("adapted gray " + name, Encoding::gray_adapted(whites[w], curves[c], intent, d), answer, out, count);
+                }
                 for (std::uint32_t p = 0; p < 4; p++) {
                     count = held;
                     answer = merqyduk_write_rgb_counted(w, 0.3457f, 0.3585f, p, 0.64f, 0.33f, 0.21f, 0.71f, 0.15f,
@@ -108,6 +113,15 @@ void encodings() {
             same("XYB of a device " + std::to_string(i), Encoding::xyb(static_cast<Intent>(i), d), answer, out, count);
         }
     }
+    // Without a device, and with the mark set in a value, gray is the same. The other kinds do not read the mark.
+    const Encoding adapted = Encoding::gray_adapted(White::d65(), Curve::srgb(), Intent::relative);
+    for (Encoding encoding : {Encoding::gray(White::d65(), Curve::srgb(), Intent::relative), Encoding::srgb(), Encoding::xyb()}) {
+        expect(!encoding.adapted && adapted.adapted, "the mark of an encoding");
+        const CountedProfile plain = write(encoding.kind == Encoding::Kind::gray ? adapted : encoding);
+        encoding.adapted = true;
+        same("the mark in a value", encoding, static_cast<std::uint32_t>(plain.size()), plain.data(), plain.rounded());
+    }
+    expect(write(adapted).size() == 384, "adapted gray");
     // A kind that is none is refused, the one in front of the first too.
     for (int kind : {-1, 3, 255}) {
         Encoding none = Encoding::srgb();
@@ -144,7 +158,7 @@ bool alike(const Encoding &a, const Encoding &b) {
            alike(a.white.y, b.white.y) && p.kind == q.kind && alike(p.rx, q.rx) && alike(p.ry, q.ry) &&
            alike(p.gx, q.gx) && alike(p.gy, q.gy) && alike(p.bx, q.bx) && alike(p.by, q.by) &&
            a.curve.kind == b.curve.kind && alike(a.curve.gamma, b.curve.gamma) && a.intent == b.intent &&
-           a.device.maker == b.device.maker && a.device.model == b.device.model;
+           a.device.maker == b.device.maker && a.device.model == b.device.model && a.adapted == b.adapted;
 }
 
 // The text is read as the encoding, and leads to its profile.
@@ -239,7 +253,7 @@ void files() {
     expect(reading.plan.kind == 1 && reading.plan.intent == MERQYDUK_INTENT_SATURATION, "its kind and intent");
     expect(reading.plan.maker == 0x41434d45 && reading.plan.model == 0x504c5431, "its maker and model");
     expect(reading.plan.curve == MERQYDUK_CURVE_GAMMA && reading.plan.gamma == 2 * 65536, "its curve");
-    expect(reading.plan.white_x == 32768 && reading.plan.white_z == 32768, "its white");
+    expect(reading.plan.adapted == 0 && reading.plan.white_x == 32768 && reading.plan.white_z == 32768, "its white");
     expect(reading.description() == "Gra_0.2500000;0.5000000_Sat_g0.5000000", "its description");
     const Element curve = find(profile.data(), profile.size(), "kTRC");
     expect(curve && curve.data == profile.end() - 16 && curve.size == 16, "its last element");
@@ -248,6 +262,28 @@ void files() {
     expect(!cut && cut.refusal == MERQYDUK_REFUSED_SIZE_FIELD && cut.plan.kind == 0, "a cut profile");
     expect(cut.description().empty() && std::string(cut.text()) == merqyduk_refusal_text(22), "its text");
     expect(!find(profile.data(), profile.size() - 1, "kTRC"), "an element of a cut profile");
+}
+
+// Gray and adapted gray of the same encoding, and RGB of the same white.
+void adapted_files() {
+    const White white = White::own(0.25f, 0.5f);
+    const Profile plain = write(Encoding::gray(white, Curve::srgb(), Intent::saturation));
+    const Profile adapted = write(Encoding::gray_adapted(white, Curve::srgb(), Intent::saturation));
+    const Profile rgb = write(Encoding::rgb(white, Primaries::srgb(), Curve::srgb(), Intent::saturation));
+    expect(adapted.size() == plain.size() + 56, "its length");
+    const Reading reading = read(adapted.data(), adapted.size()), same = read(plain.data(), plain.size()), colors = read(rgb.data(), rgb.size());
+    expect(reading && reading.plan.kind == 1 && reading.plan.adapted == 1, "its kind and mark");
+    expect(same.plan.adapted == 0 && colors.plan.adapted == 0, "no mark in others");
+    expect(reading.plan.white_x == 0 && reading.plan.white_z == 0, "no white of its own");
+    expect(std::memcmp(reading.plan.chad, colors.plan.chad, sizeof reading.plan.chad) == 0, "the adaptation of RGB");
+    expect(reading.description() == same.description() && reading.plan.intent == same.plan.intent && reading.plan.curve == same.plan.curve,
+           "the same plan else");
+    const char tags[][5] = {"wtpt", "chad"};
+    for (const char(&tag)[5] : tags) {
+        const Element its = find(adapted.data(), adapted.size(), tag), of_rgb = find(rgb.data(), rgb.size(), tag);
+        expect(its && its.size == of_rgb.size && std::memcmp(its.data, of_rgb.data, its.size) == 0, std::string(tag) + " of RGB");
+    }
+    expect(!find(plain.data(), plain.size(), "chad"), "no adaptation without the mark");
 }
 
 // XYB of each intent: the Perceptual file but for byte 67, three letters of the text, which follow 36 bytes of its element, and the id.
@@ -286,7 +322,8 @@ std::vector<std::uint8_t> without_id(const Profile &profile) {
 void files_without_id() {
     for (const Encoding &encoding : {Encoding::srgb(), Encoding::xyb(), Encoding::xyb(Intent::relative), Encoding::xyb(Intent::saturation),
                                      Encoding::xyb(Intent::absolute), Encoding::srgb(Intent::relative, Device::of("ACME", "PLT1")),
-                                     Encoding::gray(White::d65(), Curve::srgb(), Intent::relative)}) {
+                                     Encoding::gray(White::d65(), Curve::srgb(), Intent::relative),
+                                     Encoding::gray_adapted(White::d65(), Curve::srgb(), Intent::relative)}) {
         const Profile profile = write(encoding);
         std::vector<std::uint8_t> file = without_id(profile);
         const Reading reading = read(file.data(), file.size());
@@ -345,6 +382,7 @@ void refused_join(const std::string &name, const std::vector<std::uint8_t> &row,
 void segments() {
     const Profile profiles[] = {write(Encoding::srgb()), write(Encoding::xyb()),
                                 write(Encoding::gray(White::d65(), Curve::srgb(), Intent::relative)),
+                                write(Encoding::gray_adapted(White::d65(), Curve::srgb(), Intent::relative)),
                                 write(Encoding::xyb(Intent::perceptual, Device::of("ACME", "PLT1"))), write(Encoding::xyb(Intent::relative))};
     for (const Profile &profile : profiles) {
         for (std::size_t size : {std::size_t(0), std::size_t(1), std::size_t(3), profile.size() / 3, profile.size(),
@@ -395,6 +433,7 @@ int main() {
     texts_of_encodings();
     jobs();
     files();
+    adapted_files();
     xyb_files();
     files_without_id();
     segments();
