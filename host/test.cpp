@@ -2685,6 +2685,9 @@ void adapted_files(const Bytes &f, const Bytes &plain, const Bytes &srgb) {
     expect(merqyduk_find(f.data(), f.size(), chad, &offset) == 44 && offset == 308, "chad in adapted gray");
     expect(merqyduk_find(plain.data(), plain.size(), chad, &offset) == 0 && offset == 308, "no chad in gray that is not adapted");
     expect(found(f, chad) == found(srgb, chad), "chad of sRGB");
+    // By another program's MD5, of the Rust's gray and sRGB files put together as in `spliced`.
+    const Bytes id = {0xda, 0x1f, 0xa5, 0xbe, 0xd7, 0x66, 0xe3, 0x56, 0xd9, 0xc3, 0xcf, 0x25, 0x75, 0x11, 0x25, 0x4a};
+    expect(std::equal(id.begin(), id.end(), f.begin() + 84), "the id of adapted gray");
     for (const Encoding &one : {e, with_gamma, not_adapted(e), not_adapted(with_gamma)}) {
         const Bytes file = written(call_of(one), {0, 0});
         header_bits(file, 1);

@@ -1,8 +1,8 @@
 #!/bin/sh
 # Tries the library as a user of C or C++ has it: installs it into a folder by `make install`, and builds all that follows from there.
 # The calls (test.cpp), the C++ header (test_hpp.cpp), the stack that a call takes (stack.c), what the library defines and needs, the examples by
-# pkg-config, the id of each profile against a plain MD5. Other programs open the profiles, three of them without an id and XYB with each intent, where
-# they are installed; what is skipped is said.
+# pkg-config, the id of each profile against a plain MD5. Other programs open the profiles, some of them without an id, XYB with each intent and gray
+# adapted to D50, where they are installed; what is skipped is said.
 #
 #   host/test.sh [OUT]
 #
@@ -149,6 +149,8 @@ xyb-saturation 2 XYB_Sat Saturation
 xyb-absolute 3 XYB_Abs ICC-Absolute Colorimetric
 END
 
+# The profiles that are there with a maker and a model too, and without an id.
+kinds='srgb gray gray-adapted xyb'
 if command -v exiftool >/dev/null; then
     for profile in "$out"/*.icc; do
         said=$(exiftool -s3 -validate "$profile") || fail "exiftool does not open $profile"
@@ -156,30 +158,37 @@ if command -v exiftool >/dev/null; then
     done
     echo "exiftool: $count of $count are valid"
     # -n: the bytes as they are, and not what exiftool knows of a maker.
-    for profile in srgb gray xyb; do
+    for profile in $kinds; do
         said=$(exiftool -n -s3 -DeviceManufacturer -DeviceModel "$out/$profile-device.icc" | tr '\n' ' ')
         [ "$said" = 'ACME PLT1 ' ] || fail "exiftool shows another maker or model of $profile-device.icc: $said"
     done
-    echo "exiftool: maker ACME and model PLT1 in 3 of 3"
-    for profile in srgb gray xyb; do
+    echo "exiftool: maker ACME and model PLT1 in $kinds"
+    for profile in $kinds; do
         said=$(exiftool -s3 -ProfileID "$out/$profile-no-id.icc")
         [ "$said" = 0 ] || fail "exiftool shows an id of $profile-no-id.icc: $said"
     done
-    echo "exiftool: id 0 in 3 of 3 without an id"
+    echo "exiftool: id 0 without an id in $kinds"
     while read -r profile _ text intent; do
         said=$(exiftool -s3 -RenderingIntent -ProfileDescription "$out/$profile.icc")
         [ "$said" = "$(printf '%s\n%s' "$intent" "$text")" ] || fail "exiftool shows another intent or text of $profile.icc: $said"
     done <"$out/intents"
     echo "exiftool: intent and text as written in 4 of 4 for XYB"
+    white=$(exiftool -s3 -MediaWhitePoint "$out/gray.icc") its_white=$(exiftool -s3 -MediaWhitePoint "$out/gray-adapted.icc")
+    adaptation=$(exiftool -s3 -ChromaticAdaptation "$out/gray-adapted.icc")
+    [ "$white" = '0.95045 1 1.08905' ] && [ "$its_white" = '0.9642 1 0.82491' ] || fail "exiftool shows another media white of gray: $white, adapted $its_white"
+    [ -z "$(exiftool -s3 -ChromaticAdaptation "$out/gray.icc")" ] || fail "exiftool shows an adaptation of gray.icc"
+    [ -n "$adaptation" ] && [ "$adaptation" = "$(exiftool -s3 -ChromaticAdaptation "$out/srgb.icc")" ] ||
+        fail "exiftool shows another adaptation of gray-adapted.icc than of srgb.icc: $adaptation"
+    echo "exiftool: media white $white for gray, $its_white for gray adapted, with the adaptation of sRGB: $adaptation"
 else
     skipped "exiftool's view of the profiles" libimage-exiftool-perl
 fi
 
 # The white of each, as lcms2 has it in the PCS.
 if command -v transicc >/dev/null; then
-    for profile in srgb srgb-relative srgb-no-id own gray xyb xyb-relative; do
+    for profile in srgb srgb-relative srgb-no-id own gray gray-adapted xyb xyb-relative; do
         case $profile in
-        gray) white=255 ;;
+        gray*) white=255 ;;
         # XYB's color of white, (0, Y, Y), scaled as the profile wants it.
         xyb*) white='90.2231 255 106.3738' ;;
         *) white='255 255 255' ;;
@@ -192,18 +201,18 @@ else
 fi
 if printf '#include <lcms2.h>\n' | cc -fsyntax-only -x c - 2>/dev/null; then
     cc -std=gnu11 -O2 -Wall -Wextra "$top/viewers/lcms.c" -llcms2 -lm -o "$out/lcms"
-    for profile in srgb gray xyb; do
+    for profile in $kinds; do
         said=$("$out/lcms" device "$out/$profile-device.icc") || fail "lcms2 does not open $profile-device.icc"
         [ "$said" = "$(printf 'device\tACME\tPLT1')" ] || fail "lcms2 has another maker or model of $profile-device.icc: $said"
     done
-    echo "lcms2: maker ACME and model PLT1 in 3 of 3"
-    for profile in srgb gray xyb; do
+    echo "lcms2: maker ACME and model PLT1 in $kinds"
+    for profile in $kinds; do
         said=$("$out/lcms" id "$out/$profile-no-id.icc") || fail "lcms2 does not open $profile-no-id.icc"
         [ "$said" = "$(printf 'id\t%s' $zeros)" ] || fail "lcms2 has an id of $profile-no-id.icc: $said"
         said=$("$out/lcms" white "$out/$profile-no-id.icc") || fail "lcms2 has no white of $profile-no-id.icc, or another: $said"
         [ "$said" = "$("$out/lcms" white "$out/$profile.icc")" ] || fail "lcms2 has another white of $profile-no-id.icc than of $profile.icc"
     done
-    echo "lcms2: zeros for an id in 3 of 3 without an id, white as with one"
+    echo "lcms2: zeros for an id, and white as with one, without an id in $kinds"
     while read -r profile number text _; do
         said=$("$out/lcms" intent "$out/$profile.icc") || fail "lcms2 does not open $profile.icc"
         [ "$said" = "$(printf 'intent\t%s\t%s' "$number" "$text")" ] || fail "lcms2 has another intent or text of $profile.icc: $said"
@@ -211,6 +220,13 @@ if printf '#include <lcms2.h>\n' | cc -fsyntax-only -x c - 2>/dev/null; then
         [ "$said" = "$("$out/lcms" white "$out/xyb.icc")" ] || fail "lcms2 has another white of $profile.icc than of xyb.icc"
     done <"$out/intents"
     echo "lcms2: intent and text as written in 4 of 4 for XYB, white as in the Perceptual one"
+    said=$("$out/lcms" media "$out/gray.icc") || fail "lcms2 does not open gray.icc"
+    [ "$said" = "$(printf 'media\t0.9505 1.0000 1.0891\tnone')" ] || fail "lcms2 has another media white of gray.icc, or an adaptation: $said"
+    said=$("$out/lcms" media "$out/gray-adapted.icc") || fail "lcms2 does not open gray-adapted.icc"
+    [ "$(echo "$said" | cut -f 2)" = '0.9642 1.0000 0.8249' ] && [ "$(echo "$said" | cut -f 3)" != none ] &&
+        [ "$said" = "$("$out/lcms" media "$out/srgb.icc")" ] || fail "lcms2 has another media white or adaptation of gray-adapted.icc than of srgb.icc: $said"
+    [ "$("$out/lcms" white "$out/gray-adapted.icc" | cut -f 3)" = '0.9642 1.0000 0.8249' ] || fail "lcms2 has another white of gray-adapted.icc with the intent Absolute"
+    echo "lcms2: media white 0.9505 1.0000 1.0891 for gray, 0.9642 1.0000 0.8249 for gray adapted, in the PCS too with the intent Absolute"
 else
     skipped "lcms2's view of maker, model, id and intent" liblcms2-dev
 fi

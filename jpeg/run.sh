@@ -81,7 +81,7 @@ for picture in gray rgb; do
 done
 picture_of() { # KIND
     case $1 in
-    gray) echo gray ;;
+    gray*) echo gray ;;
     *) echo rgb ;;
     esac
 }
@@ -141,7 +141,7 @@ put_by_us() { # KIND SIZE PLACE ORDER
     done
 }
 
-kinds='gray rgb xyb xyb-relative'
+kinds='gray gray-adapted rgb xyb xyb-relative'
 for kind in $kinds; do
     third=$(($(wc -c <"$out/$kind.icc") / 3))
     put_by_us $kind 65519 start forward

@@ -1,6 +1,6 @@
 // Profiles into JPEG files and out of them by the two calls on segments, for run.sh.
 //
-//    segments profiles FOLDER     writes gray.icc, rgb.icc, xyb.icc and xyb-relative.icc
+//    segments profiles FOLDER     writes gray.icc, gray-adapted.icc, rgb.icc, xyb.icc and xyb-relative.icc
 //    segments picture gray|rgb    prints a picture as PGM or PPM
 //    segments long PROFILE LENGTH prints the profile with its own bytes again and again behind it, and with its size field right: what
 //                                 other programs take for a profile and the library did not write
@@ -47,6 +47,7 @@ static void profiles(const std::string &folder) {
         const char *name;
         Encoding encoding;
     } all[] = {{"gray", Encoding::gray(White::d65(), Curve::srgb(), Intent::relative)},
+               {"gray-adapted", Encoding::gray_adapted(White::d65(), Curve::srgb(), Intent::relative)},
                {"rgb", Encoding::rgb(White::own(0.3457f, 0.3585f), Primaries::own(0.64f, 0.33f, 0.21f, 0.71f, 0.15f, 0.06f),
                                      Curve::display_gamma(2.2f), Intent::perceptual)},
                {"xyb", Encoding::xyb()},

@@ -4,6 +4,7 @@
  *    lcms device PROFILE  the maker and the model, by the letters that their bytes are
  *    lcms id PROFILE      the id in the header, by hexadecimal digits
  *    lcms intent PROFILE  the intent in the header, by its number, and the description
+ *    lcms media PROFILE   the media white, as wtpt has it, and the nine numbers of chad, none where there is no chad
  *    lcms white PROFILE   the white of the device in the PCS, relative and absolute, and in lcms2's own sRGB with eight bits
  *    lcms like PROFILE WX WY [RX RY GX GY BX BY] CURVE
  *                         the largest difference in Lab, on a grid of colors, to a profile that lcms2 makes itself from these; CURVE is srgb,
@@ -61,6 +62,17 @@ static int intent_and_text(cmsHPROFILE profile) {
     char text[400]; /* ours have at most 372 letters */
     if (!cmsGetProfileInfoASCII(profile, cmsInfoDescription, "en", "US", text, sizeof text)) return 1;
     printf("intent\t%u\t%s\n", (unsigned)cmsGetHeaderRenderingIntent(profile), text);
+    return 0;
+}
+
+static int media(cmsHPROFILE profile) {
+    const cmsCIEXYZ *white = cmsReadTag(profile, cmsSigMediaWhitePointTag);
+    if (!white) return 1;
+    printf("media\t%.4f %.4f %.4f\t", white->X, white->Y, white->Z);
+    const cmsFloat64Number *chad = cmsReadTag(profile, cmsSigChromaticAdaptationTag);
+    if (!chad) printf("none");
+    for (int i = 0; chad && i < 9; i++) printf("%s%.5f", i ? " " : "", chad[i]);
+    printf("\n");
     return 0;
 }
 
@@ -200,13 +212,14 @@ int main(int argc, char **argv) {
     static const struct {
         const char *word;
         int (*look)(cmsHPROFILE);
-    } looks[] = {{"tags", tags}, {"device", maker_and_model}, {"id", header_id}, {"intent", intent_and_text}, {"white", white}, {"srgb", srgb}};
+    } looks[] = {{"tags", tags}, {"device", maker_and_model}, {"id", header_id}, {"intent", intent_and_text},
+                 {"media", media}, {"white", white}, {"srgb", srgb}};
     int (*look)(cmsHPROFILE) = NULL;
     for (size_t i = 0; i < sizeof looks / sizeof looks[0]; i++)
         if (strcmp(word, looks[i].word) == 0) look = looks[i].look;
     const int compare = strcmp(word, "like") == 0 && (argc == 6 || argc == 12);
     if (!compare && !(look && argc == 3)) {
-        fprintf(stderr, "lcms version, lcms tags|device|id|intent|white|srgb PROFILE, or lcms like PROFILE WX WY [RX RY GX GY BX BY] CURVE\n");
+        fprintf(stderr, "lcms version, lcms tags|device|id|intent|media|white|srgb PROFILE, or lcms like PROFILE WX WY [RX RY GX GY BX BY] CURVE\n");
         return 2;
     }
     cmsSetLogErrorHandler(say);

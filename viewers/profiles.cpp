@@ -47,6 +47,10 @@ int main(int argc, char **argv) {
         {"gray-srgb", "gray", Encoding::gray(d65, Curve::srgb(), relative), "0.3127 0.329 srgb"},
         {"gray-own", "gray", Encoding::gray(own_white, Curve::linear(), Intent::perceptual), "0.3457 0.3585 1"},
         {"gray-dci-gamma", "gray", Encoding::gray(White::dci(), gamma, relative), "0.314 0.351 2.2"},
+        {"gray-srgb-adapted", "gray, adapted", Encoding::gray_adapted(d65, Curve::srgb(), relative), "0.3127 0.329 srgb"},
+        {"gray-own-adapted", "gray, adapted", Encoding::gray_adapted(own_white, Curve::linear(), Intent::perceptual),
+         "0.3457 0.3585 1"},
+        {"gray-dci-gamma-adapted", "gray, adapted", Encoding::gray_adapted(White::dci(), gamma, relative), "0.314 0.351 2.2"},
         {"xyb", "XYB", Encoding::xyb(), ""},
         {"xyb-relative", "XYB", Encoding::xyb(relative), ""},
     };

@@ -5,8 +5,9 @@
 #   viewers/run.sh [OUT]
 #
 # OUT, for the profiles and the answers, is target/viewers if left out; OUT/table.md is the table of docs/VIEWERS.md. Debian's packages:
-# liblcms2-dev liblcms2-utils libimage-exiftool-perl ghostscript imagemagick. Fails where a program refuses a profile, and where white is
-# not white within 1 of 255. Each program must find fault with a profile that is cut to 200 bytes.
+# liblcms2-dev liblcms2-utils libimage-exiftool-perl ghostscript imagemagick. Fails where a program refuses a profile, where white is
+# not white within 1 of 255, and where lcms2 has another media white than D50, or, for gray that is not adapted, than the white of the encoding.
+# Each program must find fault with a profile that is cut to 200 bytes.
 set -eu
 
 fail() {
@@ -67,7 +68,7 @@ fi
 # The device's numbers of white, 0 to 1: those of XYB are its color of white, (0, Y, Y), scaled as XYB profiles want it.
 white() { # KIND
     case $1 in
-    gray) echo 1 ;;
+    gray*) echo 1 ;;
     XYB) echo 0.353816 1 0.417152 ;;
     *) echo 1 1 1 ;;
     esac
@@ -77,11 +78,33 @@ is_white() { # LEAST R G B
     [ $# -eq 4 ] && [ "$2" -ge "$1" ] && [ "$3" -ge "$1" ] && [ "$4" -ge "$1" ]
 }
 
+# What a profile must have in wtpt, and whether it has chad. The meaning begins with the white's x and y.
+due_media() { # KIND MEANING
+    case $1 in
+    gray) echo "$2" | awk '{ printf "%.4f 1.0000 %.4f none", $1 / $2, (1 - $1 - $2) / $2 }' ;;
+    *) echo '0.9642 1.0000 0.8249 chad' ;;
+    esac
+}
+# lcms2 takes whites for the same that differ by less than 0.002.
+near() { # X Y Z X Y Z
+    echo "$*" | awk '{ for (i = 1; i <= 3; i++) if ($i - $(i + 3) > 0.002 || $(i + 3) - $i > 0.002) exit 1 }'
+}
+
 by_lcms() { # PROFILE KIND MEANING
     "$out/lcms" tags "$1" >"$out/got" 2>"$out/said" || return 1
     unread=$(cut -f 3 "$out/got")
+    "$out/lcms" media "$1" >"$out/got" 2>"$out/said" || return 1
+    media=$(cut -f 2 "$out/got")
+    [ "$media $(cut -f 3 "$out/got" | sed 's/^[-0-9].*/chad/')" = "$(due_media "$2" "$3")" ] || {
+        cp "$out/got" "$out/said"
+        return 1
+    }
     "$out/lcms" white "$1" >"$out/got" 2>"$out/said" || return 1
-    cells="${unread:-none} | $(cut -f 2 "$out/got") | $(cut -f 3 "$out/got")"
+    near $media $(cut -f 3 "$out/got") || {
+        cp "$out/got" "$out/said"
+        return 1
+    }
+    cells="${unread:-none} | $media | $(cut -f 2 "$out/got") | $(cut -f 3 "$out/got")"
     if [ -n "$3" ]; then
         # The meaning is several words.
         "$out/lcms" like "$1" $3 >"$out/got" 2>"$out/said" || return 1
@@ -109,7 +132,7 @@ by_exiftool() {
 # A page of one color with the profile for its device space; what comes out is Ghostscript's own sRGB.
 by_gs() {
     case $2 in
-    gray) space=Gray operator=setgray ;;
+    gray*) space=Gray operator=setgray ;;
     *) space=RGB operator=setrgbcolor ;;
     esac
     echo "<< /PageSize [8 8] >> setpagedevice $(white "$2") $operator 0 0 8 8 rectfill showpage" >"$out/page.ps"
@@ -124,7 +147,7 @@ by_gs() {
 by_magick() {
     set -- "$1" "$2" $(white "$2")
     case $2 in
-    gray) color='gray(100%)' to=Gray ;;
+    gray*) color='gray(100%)' to=Gray ;;
     *) color=$(awk -v r="$3" -v g="$4" -v b="$5" 'BEGIN { printf "rgb(%.4f%%,%.4f%%,%.4f%%)", 100 * r, 100 * g, 100 * b }') to=sRGB ;;
     esac
     "$convert" -size 1x1 "xc:$color" -colorspace $to -profile "$1" -profile "$out/srgb.icc" -depth 16 -endian MSB rgb:"$out/pixel" >"$out/said" 2>&1 || return 1
@@ -155,7 +178,7 @@ echo "a profile cut to 200 bytes: refused by$programs"
     head='| profile | kind | bytes |' line='|---|---|---|'
     for program in $programs; do
         case $program in
-        lcms) head="$head lcms2 $lcms: tags not read | white, relative | white, absolute | difference to its own |" line="$line---|---|---|---|" ;;
+        lcms) head="$head lcms2 $lcms: tags not read | media white | white, relative | white, absolute | difference to its own |" line="$line---|---|---|---|---|" ;;
         transicc) head="$head transicc, linkicc $transicc |" line="$line---|" ;;
         exiftool) head="$head exiftool $exiftool |" line="$line---|" ;;
         gs) head="$head Ghostscript $gs |" line="$line---|" ;;

@@ -151,6 +151,8 @@ def main():
     found = owners(file)
     kind = KINDS.get(file[12:20], "a profile of another kind")
     names = [name for name, _, _ in found]
+    if kind == "gray" and "chad" in names:
+        kind += ", adapted to D50"
     if kind == "RGB":
         kind += " with cicp" if "cicp" in names else " without cicp"
     legend, bottom = draw_legend(found, len(file))
