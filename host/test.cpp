@@ -545,11 +545,11 @@ void not_read(const std::string &name, uint32_t number, const Bytes &f) {
     }
 }
 
-// A profile that is written, read back, and its elements found, with each maker and model. The same with zeros in place of its id; with a bit of the
-// id or of the zeros changed it is refused.
-Bytes profile(const std::string &name, uint32_t length, const Call &call, Asked asked) {
+// A profile that is written, read back, and its elements found, with each of these makers and models. The same with zeros in place of its id; with a
+// bit of the id or of the zeros changed it is refused.
+Bytes profile(const std::string &name, uint32_t length, const Call &call, Asked asked, const std::vector<Device> &its_devices = devices) {
     const Bytes f = writes(name, length, call);
-    for (const Device &device : devices) {
+    for (const Device &device : its_devices) {
         same_device(name, length, call, device, f.data(), f.size(), true);
         const Bytes its = left_with(f, length, device);
         const size_t bit = next_id_bit();
@@ -2439,10 +2439,10 @@ uint32_t answer_of(const Encoding &e) { return call_of(e).length(SIZE_MAX); }
 
 Asked asked_of(const Encoding &e) { return {1, e.intent, e.curve, e.gamma, e.adapted == 1}; }
 
-// An adapted file in all ways. Where gray that is not adapted and RGB accept the white too, it is put together from their files as well.
+// An adapted file in all ways; `writes` has each maker and model in turn. Where gray that is not adapted and RGB accept the white too, it is put together from their files as well.
 Bytes adapted_profile(const std::string &name, const Encoding &e) {
     const Bytes expected = by_hand(e);
-    const Bytes f = profile(name, uint32_t(expected.size()), call_of(e), asked_of(e));
+    const Bytes f = profile(name, uint32_t(expected.size()), call_of(e), asked_of(e), {{0, 0}, next_device()});
     expect(f == expected, name + " is the file made by hand");
     expect(found(f, wtpt) == element_from("XYZ ", {63190, 65536, 54061}), name + " has D50 for its white");
     expect(found(f, chad).size() == 44, name + " has its adaptation");
