@@ -85,7 +85,7 @@ due_media() { # KIND MEANING
     *) echo '0.9642 1.0000 0.8249 chad' ;;
     esac
 }
-# lcms2 takes whites for the same that differ by less than 0.002.
+# Whether each of three numbers is within 0.002 of another: lcms2 takes a media white that is near to D50 for D50.
 near() { # X Y Z X Y Z
     echo "$*" | awk '{ for (i = 1; i <= 3; i++) if ($i - $(i + 3) > 0.002 || $(i + 3) - $i > 0.002) exit 1 }'
 }
