@@ -2100,6 +2100,7 @@ void named_counts() {
         }
     expect(rounded(rgb(0, 0, 0, 0, {}, 2, 0, 0)) == 24, "24 numbers of sRGB were rounded");
     expect(rounded(gray(0, 0, 0, 2, 0, 1)) == 7, "7 numbers of gray were rounded");
+    expect(rounded(adapted_gray(1, 0, 0, 0, 2, 0, 1)) == 16, "16 numbers of adapted gray were rounded");
     for (uint32_t intent = 0; intent < 4; intent++) expect(rounded(xyb(intent)) == 30, "30 numbers of XYB were rounded");
     for (uint32_t white = 0; white < 4; white++)
         for (uint32_t primaries = 0; primaries < 4; primaries++) other_curves(white, primaries, {0.69f, 0.31f, 0.21f, 0.71f, 0.14f, 0.05f});
@@ -2662,6 +2663,7 @@ void other_numbers(const Bytes &f, const Bytes &plain, Asked asked) {
     for (size_t i = 0; i < 3; i++)
         for (int32_t by : {-1, 1}) refuses_adapted("a number beside D50's", 26, with_id(with_number(f, white + 4 * i, int32_t(word(f, white + 4 * i)) + by)));
     refuses_adapted("another type of chad", 26, with_id(with(f, matrix - 8, 'x')));
+    refuses_adapted("a number beside D50's and one of chad out of its range", 26, with_id(with_number(with(f, white + 3, 0), matrix, 2147483265)));
     for (size_t i = 0; i < 9; i++) {
         for (int32_t number : {2147483265, -2147483265, 2147483647, std::numeric_limits<int32_t>::min()})
             refuses_adapted("a number of chad out of its range", 27, with_id(with_number(f, matrix + 4 * i, number)));
