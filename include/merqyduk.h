@@ -38,12 +38,13 @@
  * own.
  *
  * Stack. A call takes at most MERQYDUK_STACK bytes. Measured by host/stack.c, with arguments and memcpy:
- * merqyduk_write_gray 1,768, merqyduk_write_rgb 1,888, merqyduk_write_xyb 1,768, merqyduk_length_gray 928,
- * merqyduk_length_rgb 1,088, merqyduk_length_xyb 928, the same with _counted 1,768, 1,888, 1,768, 928, 1,088 and 928,
- * the first three with _device 1,800, 1,904 and 1,768, merqyduk_job 296, merqyduk_job_profile 2,048,
- * merqyduk_read 3,720, merqyduk_find 3,784, merqyduk_parse_description 712, merqyduk_write_segments 3,784,
- * merqyduk_join_segments 6,200. Not counted is the dynamic linker, which takes about 2,600 more where a program's
- * first memcpy is looked up in the call; -Wl,-z,now has it looked up before.
+ * merqyduk_write_gray 1,832, merqyduk_write_rgb 2,016, merqyduk_write_xyb 1,832, merqyduk_length_gray 928,
+ * merqyduk_length_rgb 1,216, merqyduk_length_xyb 928, the same with _counted 1,832, 2,016, 1,832, 928, 1,216 and 928,
+ * the first three with _device 1,864, 2,032 and 1,832, merqyduk_write_gray_adapted 2,032,
+ * merqyduk_length_gray_adapted 1,184, merqyduk_job 296, merqyduk_job_profile 2,176, merqyduk_read 3,800,
+ * merqyduk_find 3,864, merqyduk_parse_description 712, merqyduk_write_segments 3,864, merqyduk_join_segments 6,280.
+ * Not counted is the dynamic linker, which takes about 2,600 more where a program's first memcpy is looked up in the
+ * call; -Wl,-z,now has it looked up before.
  *
  * Platform: Linux on any x86-64 processor. The calls go by the floating-point environment that a program
  * starts with: rounding to nearest, exceptions masked, subnormal numbers kept. A program linked with
