@@ -2440,7 +2440,8 @@ uint32_t answer_of(const Encoding &e) { return call_of(e).length(SIZE_MAX); }
 
 Asked asked_of(const Encoding &e) { return {1, e.intent, e.curve, e.gamma, e.adapted == 1}; }
 
-// An adapted file in all ways; `writes` has each maker and model in turn. Where gray that is not adapted and RGB accept the white too, it is put together from their files as well.
+// An adapted file in all ways; `writes` has each maker and model in turn. Where gray that is not adapted and RGB accept the white too, it is put
+// together from their files as well.
 Bytes adapted_profile(const std::string &name, const Encoding &e) {
     const Bytes expected = by_hand(e);
     const Bytes f = profile(name, uint32_t(expected.size()), call_of(e), asked_of(e), {{0, 0}, next_device()});
@@ -2661,7 +2662,8 @@ void other_numbers(const Bytes &f, const Bytes &plain, Asked asked) {
     own[2].second = element(plain, "wtpt");
     refuses_adapted("its own white beside chad", 26, laid_out(f, own));
     for (size_t i = 0; i < 3; i++)
-        for (int32_t by : {-1, 1}) refuses_adapted("a number beside D50's", 26, with_id(with_number(f, white + 4 * i, int32_t(word(f, white + 4 * i)) + by)));
+        for (int32_t by : {-1, 1})
+            refuses_adapted("a number beside D50's", 26, with_id(with_number(f, white + 4 * i, int32_t(word(f, white + 4 * i)) + by)));
     refuses_adapted("another type of chad", 26, with_id(with(f, matrix - 8, 'x')));
     refuses_adapted("a number beside D50's and one of chad out of its range", 26, with_id(with_number(with(f, white + 3, 0), matrix, 2147483265)));
     for (size_t i = 0; i < 9; i++) {

@@ -289,9 +289,10 @@ uint32_t merqyduk_length_xyb_counted(uint32_t intent, size_t capacity, uint32_t 
 
 /* Gray with the mark, with maker and model and with a count. `adapted` is 0 or 1; any other number is answered
  * MERQYDUK_REFUSED_MEANING. With 0 the first call answers what merqyduk_write_gray_device answers and leaves the same output,
- * the second answers what merqyduk_length_gray answers, and *rounded becomes what the two gray calls above make it. With 1 the
- * profile has D50 in wtpt and, as the next element, the chad of an RGB profile of the same white; after 43 are tested 1, 4 and 5
- * as for that RGB profile, 8 and 9. On every refusal *rounded is unchanged; the pointer must be valid even then. */
+ * the second answers what merqyduk_length_gray answers, and *rounded becomes what the two gray calls above make it. With 1
+ * the profile has D50 in wtpt and, as the next element, the chad of an RGB profile of the same white; after 43 are tested 1,
+ * then 4 and 5 as for that RGB profile, then 8 and 9. On every refusal *rounded is unchanged; the pointer must be valid even
+ * then. */
 uint32_t merqyduk_write_gray_adapted(uint32_t white, float wx, float wy, uint32_t curve, float gamma, uint32_t intent,
                                      uint32_t adapted, uint32_t maker, uint32_t model, uint8_t *out, size_t out_len,
                                      uint32_t *rounded);
