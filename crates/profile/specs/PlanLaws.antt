@@ -158,29 +158,17 @@ module _ (n : ℕ) where
   abbrev shaped : Kind → Bool → Bool → Bool → Shape
   shaped k g v a = record { kind = k; letters = n; gamma = g; cicp = v; adapted = a }
 
-  least : (k : Kind) (g v a : Bool) → 1 ≤ n → 284 ≤ fileLength (Shape.slotsOf (shaped k g v a))
+  bounds : (k : Kind) (g v a : Bool) → let f = fileLength (Shape.slotsOf (shaped k g v a)) in (1 ≤ n → 284 ≤ f) × (n ≤ maxLetters → f ≤ Shape.maxLength)
   unfolding Shape.slotsOf fileLength start bodySize tagCount padding
-  least Gray true v true h = omega arith
-  least Gray true v false h = omega arith
-  least Gray false v true h = omega arith
-  least Gray false v false h = omega arith
-  least Rgb true true a h = omega arith
-  least Rgb true false a h = omega arith
-  least Rgb false true a h = omega arith
-  least Rgb false false a h = omega arith
-  least Xyb g v a h = omega arith
-
-  most : (k : Kind) (g v a : Bool) → n ≤ maxLetters → fileLength (Shape.slotsOf (shaped k g v a)) ≤ Shape.maxLength
-  unfolding Shape.slotsOf fileLength start bodySize tagCount padding
-  most Gray true v true h = omega arith
-  most Gray true v false h = omega arith
-  most Gray false v true h = omega arith
-  most Gray false v false h = omega arith
-  most Rgb true true a h = omega arith
-  most Rgb true false a h = omega arith
-  most Rgb false true a h = omega arith
-  most Rgb false false a h = omega arith
-  most Xyb g v a h = omega arith
+  bounds Gray true v true = (λ h. omega arith, λ h. omega arith)
+  bounds Gray true v false = (λ h. omega arith, λ h. omega arith)
+  bounds Gray false v true = (λ h. omega arith, λ h. omega arith)
+  bounds Gray false v false = (λ h. omega arith, λ h. omega arith)
+  bounds Rgb true true a = (λ h. omega arith, λ h. omega arith)
+  bounds Rgb true false a = (λ h. omega arith, λ h. omega arith)
+  bounds Rgb false true a = (λ h. omega arith, λ h. omega arith)
+  bounds Rgb false false a = (λ h. omega arith, λ h. omega arith)
+  bounds Xyb g v a = (λ h. omega arith, λ h. omega arith)
 
   four : {a b c d : ℕ} → All Four ((a ∷ b ∷ c ∷ d ∷ []) ∷ [])
   four = more refl none
@@ -196,10 +184,10 @@ module _ (n : ℕ) where
   signed Xyb g v a = more four (more four (more four (more four (more four (more four none)))))
 
 pub at-least : (s : Shape) → 1 ≤ s .letters → 284 ≤ fileLength (Shape.slotsOf s)
-at-least s h = least (s .letters) (s .kind) (s .gamma) (s .cicp) (s .adapted) h
+at-least s h = bounds (s .letters) (s .kind) (s .gamma) (s .cicp) (s .adapted) .0 h
 
 pub at-most : (s : Shape) → s .letters ≤ maxLetters → fileLength (Shape.slotsOf s) ≤ Shape.maxLength
-at-most s h = most (s .letters) (s .kind) (s .gamma) (s .cicp) (s .adapted) h
+at-most s h = bounds (s .letters) (s .kind) (s .gamma) (s .cicp) (s .adapted) .1 h
 
 pub fours : (s : Shape) → Fours (Shape.slotsOf s)
 fours s = signed (s .letters) (s .kind) (s .gamma) (s .cicp) (s .adapted)
