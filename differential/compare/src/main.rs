@@ -5,6 +5,7 @@
 //! ones that follow from the seed. Prints a line for each and fails if one answer differs. `bench`
 //! times the writer beside the original, and typed texts.
 
+mod adapted;
 mod jobs;
 mod lent;
 mod port;

@@ -76,6 +76,56 @@ mod entries {
             out: *mut u8,
             len: usize,
         ) -> u32;
+        #[allow(clippy::too_many_arguments)]
+        pub fn merqyduk_write_gray_counted(
+            white: u32,
+            wx: f32,
+            wy: f32,
+            curve: u32,
+            gamma: f32,
+            intent: u32,
+            out: *mut u8,
+            len: usize,
+            rounded: *mut u32,
+        ) -> u32;
+        #[allow(clippy::too_many_arguments)]
+        pub fn merqyduk_length_gray_counted(
+            white: u32,
+            wx: f32,
+            wy: f32,
+            curve: u32,
+            gamma: f32,
+            intent: u32,
+            capacity: usize,
+            rounded: *mut u32,
+        ) -> u32;
+        #[allow(clippy::too_many_arguments)]
+        pub fn merqyduk_write_gray_adapted(
+            white: u32,
+            wx: f32,
+            wy: f32,
+            curve: u32,
+            gamma: f32,
+            intent: u32,
+            adapted: u32,
+            maker: u32,
+            model: u32,
+            out: *mut u8,
+            len: usize,
+            rounded: *mut u32,
+        ) -> u32;
+        #[allow(clippy::too_many_arguments)]
+        pub fn merqyduk_length_gray_adapted(
+            white: u32,
+            wx: f32,
+            wy: f32,
+            curve: u32,
+            gamma: f32,
+            intent: u32,
+            adapted: u32,
+            capacity: usize,
+            rounded: *mut u32,
+        ) -> u32;
         pub fn merqyduk_length_xyb(intent: u32, capacity: usize) -> u32;
         pub fn merqyduk_length_gray(
             white: u32,
@@ -361,7 +411,7 @@ pub fn validation(encoding: &Encoding) -> u32 {
 /// The reader's answer. The fields are filled before, so that one that is not written shows.
 pub fn read(file: &[u8]) -> Reading {
     let mut reading = Reading {
-        codes: [0xa5; 8],
+        codes: [0xa5; 9],
         free: [0xa5; 3],
         chad: [0xa5; 9],
         columns: [0xa5; 9],
@@ -526,6 +576,61 @@ pub fn length(encoding: &Encoding, capacity: usize) -> u32 {
             ),
             _ => entries::merqyduk_length_xyb(a.intent, capacity),
         }
+    }
+}
+
+/// Gray by the entry that counts: the count, where the answer is a length, goes to the lent number.
+pub fn write_gray_counted(encoding: &Encoding, out: &mut [u8], rounded: &mut u32) -> u32 {
+    let a = Arguments::of(encoding);
+    let (at, len) = (place_mut(out), out.len());
+    unsafe {
+        entries::merqyduk_write_gray_counted(
+            a.white, a.wx, a.wy, a.curve, a.gamma, a.intent, at, len, rounded,
+        )
+    }
+}
+
+/// The same without an output.
+pub fn length_gray_counted(encoding: &Encoding, capacity: usize, rounded: &mut u32) -> u32 {
+    let a = Arguments::of(encoding);
+    unsafe {
+        entries::merqyduk_length_gray_counted(
+            a.white, a.wx, a.wy, a.curve, a.gamma, a.intent, capacity, rounded,
+        )
+    }
+}
+
+/// Gray by the entry that takes the mark of adapted gray, which need be no encoding's, with maker and
+/// model.
+pub fn write_gray_adapted(
+    encoding: &Encoding,
+    mark: u32,
+    device: Device,
+    out: &mut [u8],
+    rounded: &mut u32,
+) -> u32 {
+    let a = Arguments::of(encoding);
+    let Device { maker, model } = device;
+    let (at, len) = (place_mut(out), out.len());
+    unsafe {
+        entries::merqyduk_write_gray_adapted(
+            a.white, a.wx, a.wy, a.curve, a.gamma, a.intent, mark, maker, model, at, len, rounded,
+        )
+    }
+}
+
+/// The same without an output.
+pub fn length_gray_adapted(
+    encoding: &Encoding,
+    mark: u32,
+    capacity: usize,
+    rounded: &mut u32,
+) -> u32 {
+    let a = Arguments::of(encoding);
+    unsafe {
+        entries::merqyduk_length_gray_adapted(
+            a.white, a.wx, a.wy, a.curve, a.gamma, a.intent, mark, capacity, rounded,
+        )
     }
 }
 

@@ -5,7 +5,7 @@ use std::path::Path;
 use std::sync::LazyLock;
 
 use judge::answer;
-use judge::encoding::{Device, Encoding, GRAY, RGB, XYB};
+use judge::encoding::{ADAPTED_GRAY, Device, Encoding, GRAY, RGB, XYB};
 use judge::inputs::{Random, damage, plans, profile_cases};
 use judge::list::hex;
 use judge::profiles::{self, Sheet, change_id, set_id, set_size, zero_id};
@@ -45,8 +45,9 @@ const SIGNATURES: [&[u8; 4]; 21] = [
 /// The reader's answer as the port gives it.
 #[derive(Clone, Debug, PartialEq, Eq)]
 pub struct Reading {
-    /// Refusal, kind, intent, maker, model, the mark of an id that is not computed, curve and `cicp`.
-    pub codes: [u32; 8],
+    /// Refusal, kind, intent, maker, model, the mark of an id that is not computed, curve, `cicp`, and
+    /// the mark of adapted gray.
+    pub codes: [u32; 9],
     /// Gamma, and X and Z of a gray white.
     pub free: [i32; 3],
     pub chad: [i32; 9],
@@ -65,9 +66,12 @@ impl Reading {
         text[..plan.text.len()].copy_from_slice(&plan.text);
         let [kind, curve, cicp] = [plan.kind, plan.curve, plan.cicp].map(u32::from);
         let Device { maker, model } = plan.device;
-        let mark = plan.id_not_computed.into();
+        let [mark, adapted] = [plan.id_not_computed, plan.adapted].map(u32::from);
+        let intent = plan.intent;
         Self {
-            codes: [refusal, kind, plan.intent, maker, model, mark, curve, cicp],
+            codes: [
+                refusal, kind, intent, maker, model, mark, curve, cicp, adapted,
+            ],
             free: [plan.gamma, plan.white[0], plan.white[1]],
             chad: plan.chad,
             columns: plan.columns,
@@ -80,6 +84,7 @@ impl Reading {
 /// The answers to a file that was written: as it is, with zeros in place of its id, and with one bit of
 /// the id and of the zeros changed. Those that are due, which follow from the plan of the first: that
 /// plan, with the encoding's kind and intent, the same with the mark, and 28 twice; and those of the port.
+/// Of adapted gray the numbers of `chad` are those of the encoding, and there is no white.
 pub fn of_written(encoding: &Encoding, file: &[u8], bit: usize) -> [[Reading; 4]; 2] {
     let mut zeros = file.to_vec();
     zero_id(&mut zeros);
@@ -93,6 +98,12 @@ pub fn of_written(encoding: &Encoding, file: &[u8], bit: usize) -> [[Reading; 4]
         let mut reading = found[0].clone();
         reading.codes[..3].copy_from_slice(&[0, encoding.kind.into(), encoding.intent.into()]);
         reading.codes[5] = mark;
+        reading.codes[8] = encoding.adapted.into();
+        if encoding.adapted {
+            reading.chad = answer::chad_numbers(encoding).expect("it was written");
+            reading.columns = [0; 9];
+            reading.free[1..].fill(0);
+        }
         reading
     });
     let refused = Reading::due(&Err(28));
@@ -101,19 +112,29 @@ pub fn of_written(encoding: &Encoding, file: &[u8], bit: usize) -> [[Reading; 4]
 
 /// The bytes of a lent record before a call, and how many the struct of C has.
 const UNTOUCHED: u8 = 0xa5;
-const RECORD: usize = 488;
+const RECORD: usize = 492;
 
 impl Reading {
     /// What the call from C leaves in a record of so many bytes, and its answer.
     fn record_due(&self, length: usize) -> (u32, Vec<u8>) {
         let mut record = vec![UNTOUCHED; length];
-        let [refusal, kind, intent, maker, model, mark, curve, cicp] = self.codes;
+        let [
+            refusal,
+            kind,
+            intent,
+            maker,
+            model,
+            mark,
+            curve,
+            cicp,
+            adapted,
+        ] = self.codes;
         if refusal != 0 || length < RECORD {
             return (if refusal != 0 { refusal } else { 9 }, record);
         }
         let [gamma, white_x, white_z] = self.free.map(i32::cast_unsigned);
         let first = [
-            kind, intent, maker, model, mark, curve, gamma, cicp, white_x, white_z,
+            kind, intent, maker, model, mark, curve, gamma, cicp, adapted, white_x, white_z,
         ];
         let nines = self.chad.iter().chain(&self.columns);
         let numbers = first
@@ -176,6 +197,10 @@ pub fn reader(run: &mut Run) {
         "reader, XYB: {}; under other ids {}",
         met.xyb, other_ids.xyb
     );
+    println!(
+        "reader, gray with five tags: {}; under other ids {}",
+        met.adapted, other_ids.adapted
+    );
     if run.count >= ENOUGH && met.lacks_one() {
         println!("reader: an answer never occurred");
         run.differences += 1;
@@ -215,7 +240,8 @@ pub fn folder(run: &mut Run, folder: &Path) -> Result<(), String> {
 /// that its table is looked at; and its front under the table of a plan.
 fn with_our_headers(bytes: &[u8], random: &mut Random) -> Vec<Vec<u8>> {
     let mut all = Vec::new();
-    for kind in [GRAY, RGB, XYB] {
+    for kind in [GRAY, RGB, XYB, ADAPTED_GRAY] {
+        let (kind, adapted) = Encoding::kind_and_mark(kind);
         let mut file = bytes.to_vec();
         if file.len() >= 128 {
             let header = profiles::header(kind);
@@ -227,6 +253,10 @@ fn with_our_headers(bytes: &[u8], random: &mut Random) -> Vec<Vec<u8>> {
         all.push(file);
         // Of its elements the table of a plan makes others.
         let plan = plans::of_shape(random, kind, 8, false, kind == RGB);
+        let plan = match adapted {
+            true => plans::adapted(random, plan),
+            false => plan,
+        };
         let mut file = Sheet::of(&plan).bytes();
         let table = 132 + 12 * usize::from(file[131]);
         let count = (file.len() - table).min(bytes.len().saturating_sub(table));
@@ -285,7 +315,7 @@ fn judged(file: &[u8]) -> Result<Plan, u32> {
 /// One file: the reader's whole answer, and the finder's. Says whether the file is accepted.
 fn trial(run: &mut Run, file: &[u8], met: &mut Met) -> bool {
     let answer = judged(file);
-    met.add(&answer);
+    met.add(file, &answer);
     let mut differences = Vec::new();
     let (expected, found) = (Reading::due(&answer), port::read(file));
     if expected != found {
@@ -385,12 +415,14 @@ struct Met {
     /// And those whose id is not computed.
     marks: u64,
     xyb: MetXyb,
+    adapted: MetAdapted,
 }
 
 impl Met {
-    fn add(&mut self, answer: &Result<Plan, u32>) {
+    fn add(&mut self, file: &[u8], answer: &Result<Plan, u32>) {
         let number = *answer.as_ref().err().unwrap_or(&20) as usize - 20;
         self.answers[number] += 1;
+        self.adapted.add(file, answer);
         let device = |plan: &Plan| plan.device != Device::default();
         self.devices += u64::from(answer.as_ref().is_ok_and(device));
         self.marks += u64::from(answer.as_ref().is_ok_and(|plan| plan.id_not_computed));
@@ -404,7 +436,7 @@ impl Met {
     fn lacks_one(&self) -> bool {
         let both = |some: u64| (1..self.answers[0]).contains(&some);
         let lacks = self.answers.contains(&0) || !both(self.devices) || !both(self.marks);
-        lacks || self.xyb.lacks_one()
+        lacks || self.xyb.lacks_one() || self.adapted.lacks_one()
     }
 }
 
@@ -417,6 +449,47 @@ impl Display for Met {
             "{accepted} accepted, of these {devices} with a maker or model and {marks} with the mark"
         )?;
         let occurred = (21..).zip(refused).filter(|(_, times)| **times > 0);
+        for (number, times) in occurred {
+            write!(f, ", {times} refused {number}")?;
+        }
+        Ok(())
+    }
+}
+
+/// What was due of files that are of gray by their header and have five tags, as adapted gray has.
+#[derive(Default)]
+struct MetAdapted {
+    /// Accepted, and refused by 24 to 28.
+    answers: [u64; 6],
+    /// Of the accepted, those whose id is not computed.
+    marks: u64,
+}
+
+impl MetAdapted {
+    fn add(&mut self, file: &[u8], answer: &Result<Plan, u32>) {
+        let five = file.get(128..132) == Some(&[0, 0, 0, 5]);
+        let gray = file.get(12..20) == Some(b"mntrGRAY");
+        let place = match answer {
+            Ok(_) => 0,
+            Err(number) => number.saturating_sub(23) as usize,
+        };
+        if five && gray && (answer.is_ok() || place > 0) {
+            self.answers[place] += 1;
+            self.marks += u64::from(answer.as_ref().is_ok_and(|plan| plan.id_not_computed));
+        }
+    }
+
+    fn lacks_one(&self) -> bool {
+        self.answers.contains(&0) || !(1..self.answers[0]).contains(&self.marks)
+    }
+}
+
+impl Display for MetAdapted {
+    fn fmt(&self, f: &mut Formatter<'_>) -> Printed {
+        let [accepted, refused @ ..] = &self.answers;
+        let marks = self.marks;
+        write!(f, "{accepted} accepted, of these {marks} with the mark")?;
+        let occurred = (24..).zip(refused).filter(|(_, times)| **times > 0);
         for (number, times) in occurred {
             write!(f, ", {times} refused {number}")?;
         }

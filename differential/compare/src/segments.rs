@@ -3,7 +3,7 @@
 use std::alloc::{Layout, alloc_zeroed, dealloc};
 use std::fmt::{Display, Formatter, Result as Printed};
 
-use judge::encoding::Encoding;
+use judge::encoding::{Curve, Encoding, SRGB_CURVE, White};
 use judge::inputs::Random;
 use judge::inputs::segments::{self as inputs, FAULTS, Fault, File, Files, LARGEST_ROOM, LONGEST};
 use judge::list::hex;
@@ -38,18 +38,20 @@ pub fn segments(run: &mut Run) {
 
 // ---- the parts
 
-/// Every size for five files, two of them XYB of different intents, and for the gray one with zeros in
-/// place of its id; of segments of the latter two every byte, of those with an id also every length,
-/// number and count.
+/// Every size for six files, two of them XYB of different intents and one adapted gray, and for the gray
+/// one with zeros in place of its id; of segments of the latter three every byte, of those of gray with
+/// its id also every length, number and count.
 fn cases(run: &mut Run, random: &mut Random) -> Result<(), String> {
     let profiles = bench::encodings().map(|(_, encoding)| answer::profile(&encoding));
     let [srgb, own, gray, xyb] = profiles.map(|profile| profile.expect("these are accepted"));
     let relative = answer::profile(&Encoding::xyb(1)).expect("accepted");
+    let adapted = Encoding::adapted_gray(White::named(0), Curve::named(SRGB_CURVE), 1);
+    let adapted = answer::profile(&adapted).expect("accepted");
     let mut zeros = gray.clone();
     zero_id(&mut zeros);
-    let files = [srgb, own, xyb, relative, gray, zeros].map(File::new);
-    let [.., gray, zeros] = &files;
-    let changed = [gray, zeros].map(|file| (file, around(&file.bytes)));
+    let files = [srgb, own, xyb, relative, adapted, gray, zeros].map(File::new);
+    let [.., adapted, gray, zeros] = &files;
+    let changed = [gray, zeros, adapted].map(|file| (file, around(&file.bytes)));
     let sizes: usize = files.iter().map(|file| file.bytes.len() + 8).sum();
     let changes: usize = changed.iter().map(|(_, all)| all.len()).sum();
     let count = 3 * sizes + changes + 3 * 65_536;
@@ -351,6 +353,8 @@ struct Met {
     zeros: u64,
     /// And those of XYB, by intent.
     xyb: [u64; 4],
+    /// And those of adapted gray.
+    adapted: u64,
     /// Refused by 53: outside the limits, and too many segments.
     sizes: [u64; 2],
     /// Refused by 54, by the fault; at the end without a name for it.
@@ -384,6 +388,7 @@ impl Met {
         if file[12..16] == *b"scnr" {
             self.xyb[usize::from(file[67])] += 1;
         }
+        self.adapted += u64::from(file[16..20] == *b"GRAY" && file[131] == 5);
     }
 
     fn refused(&mut self, length: usize, number: u32) {
@@ -411,6 +416,7 @@ impl Met {
 
     fn lacks_of_both(&self) -> bool {
         let both = (1..self.read[0]).contains(&self.zeros) && !self.xyb.contains(&0);
+        let both = both && self.adapted > 0;
         self.read.contains(&0) || !both || self.long.contains(&0) || self.outputs == 0
     }
 }
@@ -421,9 +427,9 @@ impl Display for Met {
         let [perceptual, relative, saturation, absolute] = self.xyb;
         write!(
             f,
-            "{} accepted, of these {} with a zero id, and XYB by intent {perceptual} {relative} \
-             {saturation} {absolute}",
-            self.read[0], self.zeros
+            "{} accepted, of these {} with a zero id, XYB by intent {perceptual} {relative} \
+             {saturation} {absolute}, and {} adapted gray",
+            self.read[0], self.zeros, self.adapted
         )?;
         let [outside, many] = self.sizes;
         let no_segments = self.faults.iter().sum();

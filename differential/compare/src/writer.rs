@@ -1,6 +1,7 @@
 //! The writer against the original: with maker and model zero, where its files are the original's, and
 //! with others, where they are these with the eight bytes changed and the id that is then due. Each file
-//! that is written is read, also without its id and under other ids.
+//! that is written is read, also without its id and under other ids. Of each white, curve and intent
+//! adapted gray is tried too (`adapted`).
 
 use std::collections::BTreeMap;
 use std::fmt::{Display, Formatter, Result as Printed};
@@ -9,19 +10,20 @@ use judge::answer;
 use judge::encoding::{Encoding, GRAY, RGB, XYB};
 use judge::inputs::{Random, devices, encodings};
 
+use crate::adapted::AdaptedGray;
 use crate::{PART, Run, Tally, port, reader};
 
 /// From this many encodings on, each answer must have occurred.
-const ENOUGH: usize = 100_000;
+pub const ENOUGH: usize = 100_000;
 
 /// An output that is enough for every profile.
-const LONG: usize = 1300;
+pub const LONG: usize = 1300;
 
 /// After so many encodings comes one more that is tried with maker and model only.
 const BESIDE: usize = 16;
 
-/// Tries encodings in both ways. The second draws its numbers apart, so that the first has the
-/// encodings and outputs that the seed always had.
+/// Tries encodings in both ways, and adapted gray. The others draw their numbers apart, so that the
+/// first has the encodings and outputs that the seed always had.
 pub fn writer(run: &mut Run) {
     let mut random = Random::new(run.seed);
     let mut plain = Tally::new("writer and dry call", run.count);
@@ -35,6 +37,8 @@ pub fn writer(run: &mut Run) {
         met: Met::default(),
         read: Tally::new("written files read", 2 * (run.count + run.count / BESIDE)),
     };
+    let own = Random::new(random.apart().bits64());
+    let mut adapted = AdaptedGray::new(own, run.count);
     while plain.tried < run.count {
         for (encoding, room) in calls(&mut random, PART.min(run.count - plain.tried)) {
             let profile = answer::profile(&encoding);
@@ -46,11 +50,13 @@ pub fn writer(run: &mut Run) {
             if plain.tried.is_multiple_of(BESIDE) {
                 with_device.beside(&encoding);
             }
+            adapted.call(&encoding);
         }
     }
     println!("{plain}");
     run.differences += plain.different;
     with_device.finish(run);
+    adapted.finish(run);
 }
 
 /// Encodings, each with an output of 1,300 bytes or, one in eight, of any length up to 800.
@@ -71,7 +77,7 @@ const FILL: u8 = 0xa5;
 /// What a call on an output of `room` bytes answers and leaves in it.
 #[derive(Debug, PartialEq)]
 pub struct Written {
-    answer: usize,
+    pub answer: usize,
     output: Vec<u8>,
 }
 
@@ -90,7 +96,7 @@ impl Written {
     }
 
     /// The file, where one was written: a number below 100 is a refusal.
-    fn file(&self) -> Option<&[u8]> {
+    pub fn file(&self) -> Option<&[u8]> {
         self.output
             .get(..self.answer)
             .filter(|file| file.len() >= 100)

@@ -2,7 +2,7 @@
 //! are told by a copy of the original that reports them (build.sh) and is otherwise the same.
 
 use judge::answer;
-use judge::encoding::{Encoding, GAMMA, GRAY, PERCEPTUAL, RGB, XYB};
+use judge::encoding::{Encoding, GAMMA, GRAY, PERCEPTUAL, Primaries, RGB, White, XYB};
 use jxl::api::color as original;
 use jxl_counted::api::color as copy;
 
@@ -13,7 +13,8 @@ pub struct Profile {
 }
 
 /// The profile, or the number of the refusal (1, or 3 to 8). The copy refuses XYB with another intent
-/// than Perceptual, as the original does; the floats are then those of its Perceptual file.
+/// than Perceptual, as the original does; the floats are then those of its Perceptual file. It has no
+/// adapted gray either: there they are those of its RGB and its gray.
 ///
 /// # Panics
 /// If the copy answers otherwise than the original, or reports fewer or more floats than the file
@@ -25,6 +26,9 @@ pub fn profile(encoding: &Encoding) -> Result<Profile, u32> {
         let Profile { floats, .. } = profile(&Encoding::xyb(PERCEPTUAL))?;
         let bytes = answer::profile(encoding)?;
         return Ok(Profile { bytes, floats });
+    }
+    if encoding.adapted {
+        return adapted(encoding);
     }
     let given = answer::profile(encoding);
     // PQ and HLG are refused before the original is asked; it would stop the program.
@@ -44,12 +48,36 @@ pub fn profile(encoding: &Encoding) -> Result<Profile, u32> {
     }
 }
 
+/// The floats of adapted gray: those of `wtpt` and `chad` are the first twelve that the copy reports of an
+/// RGB file of the white, whether it refuses what comes behind them or not; those of the curve, the last
+/// of its gray file of the curve under D65.
+///
+/// # Panics
+/// If they are not those that the judge makes the file from.
+fn adapted(encoding: &Encoding) -> Result<Profile, u32> {
+    let bytes = answer::profile(encoding)?;
+    let (curve, intent) = (encoding.curve, encoding.intent);
+    let rgb = Encoding::rgb(encoding.white, Primaries::named(0), curve, intent);
+    let _ = copied(&rgb).maybe_create_profile();
+    let white = reported::taken();
+    let gray = profile(&Encoding::gray(White::named(0), curve, intent))?.floats;
+    let floats = [&white[..3 + 9], &gray[3..]].concat();
+    let bits = |floats: &[f32]| floats.iter().map(|x| x.to_bits()).collect::<Vec<_>>();
+    let due = answer::adapted_floats(encoding);
+    assert!(
+        bits(&due) == bits(&floats) && floats.len() == fixed_numbers(encoding),
+        "{encoding:?}: {floats:?}, not {due:?}"
+    );
+    Ok(Profile { bytes, floats })
+}
+
 /// How many fixed numbers are made from floats: three of `wtpt`, nine of `chad`, nine of the columns,
 /// and the curve's, which the file has once. XYB has six curves of one number, three of five, and a
 /// matrix of twelve.
 fn fixed_numbers(encoding: &Encoding) -> usize {
     let curve = if encoding.curve.kind == GAMMA { 1 } else { 5 };
     match encoding.kind {
+        GRAY if encoding.adapted => 3 + 9 + curve,
         GRAY => 3 + curve,
         RGB => 3 + 9 + 9 + curve,
         _ => 3 + 9 + 6 + 3 * 5 + 12,

@@ -10,6 +10,12 @@ use judge::inputs::{Random, encodings, filled};
 
 use crate::port::Codes;
 
+/// Adapted gray of the white, curve and intent of each encoding; XYB has no white.
+pub fn adapted(encodings: Vec<Encoding>) -> Vec<Encoding> {
+    let all = encodings.iter().filter_map(Encoding::to_adapted_gray);
+    all.collect()
+}
+
 /// The cases, then random ones until there are `count`, none twice.
 pub fn whole(random: &mut Random, count: usize) -> Vec<Encoding> {
     filled(cases(), count, || any(random))
@@ -217,9 +223,14 @@ pub fn without_meaning(random: &mut Random, encoding: &Encoding) -> Codes {
         primaries,
         curve,
         intent,
+        adapted,
     } = &mut codes;
-    // Each with the number of those that have a meaning. Gray has no primaries.
+    // Each with the number of those that have a meaning. Gray has no primaries, and only adapted gray is
+    // asked for by its mark.
     let mut places = vec![(intent, 4)];
+    if encoding.adapted {
+        places.push((adapted, 2));
+    }
     if encoding.kind != XYB {
         places.extend([(white, 4), (curve, 7)]);
     }

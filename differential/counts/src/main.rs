@@ -1,8 +1,9 @@
 //! Tries the port's count of rounded numbers against one that is made from the original's own floats.
 //!
 //! Each part takes COUNT encodings: those that the writer is compared with, those with many whole
-//! numbers, and those with a code that has no meaning. Prints for each part how often each count and
-//! each answer occurred, and fails if one call differs.
+//! numbers, and those with a code that has no meaning; then adapted gray of the whites, curves and intents
+//! of each of these. Prints for each part how often each count and each answer occurred, and fails if one
+//! call differs.
 
 mod copy;
 mod inputs;
@@ -12,7 +13,7 @@ mod port;
 use std::fmt::{Display, Formatter, Result as Printed};
 use std::process::ExitCode;
 
-use judge::encoding::Encoding;
+use judge::encoding::{Encoding, GRAY};
 use judge::inputs::{Random, encodings};
 use judge::progress::Progress;
 use judge::{answer, leaves};
@@ -176,13 +177,26 @@ impl Part {
     }
 
     fn asked(&mut self, encoding: &Encoding, codes: Codes, answer: Result<(&[u8], u32), u32>) {
-        let asked = Asked { encoding, codes };
         let room = self.room(answer.map_or(0, |(bytes, _)| bytes.len()));
         match answer.and_then(|(bytes, _)| answer::within(bytes, room)) {
             Ok(_) => {}
-            Err(number) => self.met.refused(number),
+            Err(number) => self.met.refused(encoding, number),
         }
-        if let Err(how) = (Due { asked, answer }).calls(&mut self.random, room) {
+        let mut apart = self.random.apart();
+        let calls = |random: &mut Random, with_mark| {
+            let asked = Asked {
+                encoding,
+                codes,
+                with_mark,
+            };
+            Due { asked, answer }.calls(random, room)
+        };
+        // Adapted gray has no other entries; gray has both, and the mark is then 0.
+        let mut called = calls(&mut self.random, encoding.adapted);
+        if encoding.kind == GRAY && !encoding.adapted {
+            called = called.and_then(|()| calls(&mut apart, true));
+        }
+        if let Err(how) = called {
             self.differences += 1;
             if self.differences <= 3 {
                 println!("{}: {encoding:x?} with {codes:?}, {how}", self.name);
@@ -216,7 +230,7 @@ impl Part {
 fn run(count: usize, seed: u64) -> usize {
     type Inputs = fn(&mut Random, usize) -> Vec<Encoding>;
     type Try = fn(&mut Part, &Encoding);
-    let parts: [(&'static str, Inputs, Try); 3] = [
+    let parts: [(&'static str, Inputs, Try); 6] = [
         (
             "counts, encodings of the writer",
             encodings::compared,
@@ -226,6 +240,21 @@ fn run(count: usize, seed: u64) -> usize {
         (
             "counts, no meaning",
             encodings::compared,
+            Part::without_meaning,
+        ),
+        (
+            "counts, adapted gray",
+            |random, count| inputs::adapted(encodings::compared(random, count)),
+            Part::encoding,
+        ),
+        (
+            "counts, adapted gray, whole numbers",
+            |random, count| inputs::adapted(inputs::whole(random, count)),
+            Part::encoding,
+        ),
+        (
+            "counts, adapted gray, no meaning",
+            |random, count| inputs::adapted(encodings::compared(random, count)),
             Part::without_meaning,
         ),
     ];

@@ -3,32 +3,42 @@
 use std::collections::BTreeMap;
 use std::ops::RangeInclusive;
 
-use judge::encoding::{Encoding, GAMMA, GRAY, RGB, XYB};
+use judge::encoding::{ADAPTED_GRAY, Encoding, GAMMA, GRAY, RGB, XYB};
 use judge::leaves;
 
-/// The refusals of the calls. Number 2 no longer occurs.
+/// The refusals of the calls, and those of adapted gray. Number 2 no longer occurs.
 const REFUSALS: [u32; 9] = [1, 3, 4, 5, 6, 7, 8, 9, 43];
+const ADAPTED_REFUSALS: [u32; 6] = [1, 4, 5, 8, 9, 43];
 
-/// The fixed numbers of a file: gray with a gamma and with a named curve, RGB likewise, XYB.
-const FILES: [usize; 5] = [4, 8, 22, 26, 45];
+/// The fixed numbers of a file: gray with a gamma and with a named curve, adapted gray and RGB likewise,
+/// XYB.
+const FILES: [usize; 7] = [4, 8, 13, 17, 22, 26, 45];
 
-const KINDS: [(u8, &str); 3] = [(GRAY, "gray"), (RGB, "RGB"), (XYB, "XYB")];
+const KINDS: [(u8, &str); 4] = [
+    (GRAY, "gray"),
+    (RGB, "RGB"),
+    (XYB, "XYB"),
+    (ADAPTED_GRAY, "adapted gray"),
+];
 
 /// The counts that a file of gray can have: of X and Z none to two, of the curve none, one or five.
 const GRAY_COUNTS: [u32; 7] = [0, 1, 2, 3, 5, 6, 7];
 
-/// Those of RGB: two constants of `wtpt` are rounded in every file, and one in none.
+/// Those of RGB and of adapted gray: two constants of `wtpt` are rounded in every file, and one in none.
 const RGB_COUNTS: RangeInclusive<u32> = 2..=25;
+const ADAPTED_COUNTS: RangeInclusive<u32> = 2..=16;
 
 #[derive(Default)]
 pub struct Met {
-    /// By kind and count.
+    /// By kind, adapted gray apart, and count.
     counts: BTreeMap<(u8, u32), u64>,
     /// By the fixed numbers of the file.
     files: BTreeMap<usize, u64>,
     /// Files of XYB, by intent.
     xyb: BTreeMap<u8, u64>,
     refused: BTreeMap<u32, u64>,
+    /// Of these, adapted gray.
+    adapted: BTreeMap<u32, u64>,
     floats: BTreeMap<Class, u64>,
 }
 
@@ -75,7 +85,8 @@ impl Class {
 
 impl Met {
     pub fn accepted(&mut self, encoding: &Encoding, floats: &[f32], rounded: u32) {
-        *self.counts.entry((encoding.kind, rounded)).or_default() += 1;
+        let kind = encoding.section();
+        *self.counts.entry((kind, rounded)).or_default() += 1;
         *self.files.entry(floats.len()).or_default() += 1;
         if encoding.kind == XYB {
             *self.xyb.entry(encoding.intent).or_default() += 1;
@@ -91,8 +102,11 @@ impl Met {
         }
     }
 
-    pub fn refused(&mut self, number: u32) {
+    pub fn refused(&mut self, encoding: &Encoding, number: u32) {
         *self.refused.entry(number).or_default() += 1;
+        if encoding.adapted {
+            *self.adapted.entry(number).or_default() += 1;
+        }
     }
 
     pub fn add(&mut self, other: Self) {
@@ -100,6 +114,7 @@ impl Met {
         add(&mut self.files, other.files);
         add(&mut self.xyb, other.xyb);
         add(&mut self.refused, other.refused);
+        add(&mut self.adapted, other.adapted);
         add(&mut self.floats, other.floats);
     }
 
@@ -112,8 +127,13 @@ impl Met {
         all.extend(intents.map(|intent| format!("a file of XYB with intent {intent}")));
         let refusals = REFUSALS.iter().filter(|n| !self.refused.contains_key(n));
         all.extend(refusals.map(|number| format!("refusal {number}")));
+        let adapted = ADAPTED_REFUSALS.iter();
+        let adapted = adapted.filter(|n| !self.adapted.contains_key(n));
+        all.extend(adapted.map(|number| format!("refusal {number} of adapted gray")));
         let gray = GRAY_COUNTS.into_iter().map(|count| (GRAY, count));
+        let adapted = ADAPTED_COUNTS.map(|count| (ADAPTED_GRAY, count));
         let counts = gray.chain(RGB_COUNTS.map(|count| (RGB, count)));
+        let counts = counts.chain(adapted);
         let counts = counts.filter(|count| !self.counts.contains_key(count));
         all.extend(counts.map(|(kind, count)| format!("count {count} of kind {kind}")));
         let classes = Class::ALL

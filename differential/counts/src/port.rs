@@ -41,6 +41,33 @@ mod entries {
             len: usize,
             rounded: *mut u32,
         ) -> u32;
+        #[allow(clippy::too_many_arguments)]
+        pub fn merqyduk_write_gray_adapted(
+            white: u32,
+            wx: f32,
+            wy: f32,
+            curve: u32,
+            gamma: f32,
+            intent: u32,
+            adapted: u32,
+            maker: u32,
+            model: u32,
+            out: *mut u8,
+            len: usize,
+            rounded: *mut u32,
+        ) -> u32;
+        #[allow(clippy::too_many_arguments)]
+        pub fn merqyduk_length_gray_adapted(
+            white: u32,
+            wx: f32,
+            wy: f32,
+            curve: u32,
+            gamma: f32,
+            intent: u32,
+            adapted: u32,
+            capacity: usize,
+            rounded: *mut u32,
+        ) -> u32;
         pub fn merqyduk_length_xyb_counted(intent: u32, capacity: usize, rounded: *mut u32) -> u32;
         #[allow(clippy::too_many_arguments)]
         pub fn merqyduk_length_gray_counted(
@@ -74,13 +101,15 @@ mod entries {
     }
 }
 
-/// The numbers that stand for white, primaries, curve and intent. They may have no meaning.
+/// The numbers that stand for white, primaries, curve, intent and the mark of adapted gray. They may
+/// have no meaning.
 #[derive(Clone, Copy, Debug)]
 pub struct Codes {
     pub white: u32,
     pub primaries: u32,
     pub curve: u32,
     pub intent: u32,
+    pub adapted: u32,
 }
 
 impl Codes {
@@ -90,15 +119,18 @@ impl Codes {
             primaries: encoding.primaries.kind.into(),
             curve: encoding.curve.kind.into(),
             intent: encoding.intent.into(),
+            adapted: encoding.adapted.into(),
         }
     }
 }
 
-/// The kind and the floats of an encoding, and codes that need not be its own.
+/// The kind and the floats of an encoding, and codes that need not be its own. Gray is asked for by the
+/// entries that take its mark or, where it has none, also by those without.
 #[derive(Clone, Copy)]
 pub struct Asked<'a> {
     pub encoding: &'a Encoding,
     pub codes: Codes,
+    pub with_mark: bool,
 }
 
 impl Asked<'_> {
@@ -122,6 +154,9 @@ impl Asked<'_> {
         let [rx, ry, gx, gy, bx, by] = self.encoding.primaries.xy.map(f32::from_bits);
         unsafe {
             match self.encoding.kind {
+                GRAY if self.with_mark => entries::merqyduk_write_gray_adapted(
+                    c.white, wx, wy, c.curve, gamma, c.intent, c.adapted, 0, 0, at, len, rounded,
+                ),
                 GRAY => entries::merqyduk_write_gray_counted(
                     c.white, wx, wy, c.curve, gamma, c.intent, at, len, rounded,
                 ),
@@ -154,6 +189,9 @@ impl Asked<'_> {
         let [rx, ry, gx, gy, bx, by] = self.encoding.primaries.xy.map(f32::from_bits);
         unsafe {
             match self.encoding.kind {
+                GRAY if self.with_mark => entries::merqyduk_length_gray_adapted(
+                    c.white, wx, wy, c.curve, gamma, c.intent, c.adapted, capacity, rounded,
+                ),
                 GRAY => entries::merqyduk_length_gray_counted(
                     c.white, wx, wy, c.curve, gamma, c.intent, capacity, rounded,
                 ),

@@ -2,14 +2,18 @@
 //!
 //! The original has one error for 5, 7 and 8. They are told apart by calling its own pieces in its
 //! order; what they say is then held against the error of the whole call. It refuses XYB with another
-//! intent than Perceptual; what is due there is made from its Perceptual file (02, order 8).
+//! intent than Perceptual; what is due there is made from its Perceptual file (02, order 8). It has no
+//! adapted gray; what is due there is put together from its gray, its RGB and its own adaptation (02,
+//! order 9).
+
+use std::sync::LazyLock;
 
 use jxl::api::color::{JxlColorEncoding, open};
 use jxl::error::Error;
 
-use crate::encoding::{Device, Encoding, GAMMA, GRAY, PERCEPTUAL, XYB};
+use crate::encoding::{Curve, Device, Encoding, GAMMA, GRAY, LINEAR, PERCEPTUAL, White, XYB};
 use crate::leaves;
-use crate::profiles::set_id;
+use crate::profiles::{self, D50, Sheet, Tag, element, numbers, set_id};
 
 /// The profile, or the number of the refusal (1, or 3 to 8).
 ///
@@ -20,6 +24,9 @@ pub fn profile(encoding: &Encoding) -> Result<Vec<u8>, u32> {
     let original = meaning(encoding);
     if encoding.is_pq_or_hlg() {
         return Err(1);
+    }
+    if encoding.adapted {
+        return adapted_gray(encoding);
     }
     let whole = original.maybe_create_profile();
     if encoding.kind == XYB && encoding.intent != PERCEPTUAL {
@@ -47,6 +54,52 @@ fn xyb_of_other_intent(encoding: &Encoding) -> Vec<u8> {
     file[XYB_TEXT].copy_from_slice(&utf16(&description(encoding)));
     set_id(&mut file);
     file
+}
+
+/// The original's gray file of the curve and intent, under D65, with the text of the encoding, the `wtpt`
+/// of its RGB, a `chad` behind that, and the id that is then due.
+fn adapted_gray(encoding: &Encoding) -> Result<Vec<u8>, u32> {
+    static WTPT: LazyLock<Vec<u8>> = LazyLock::new(|| {
+        let rgb = Encoding::rgb(D65, Default::default(), Curve::named(LINEAR), PERCEPTUAL);
+        let file = profile(&rgb).expect("the original writes this one");
+        element(&file, b"wtpt").expect("RGB has one").to_vec()
+    });
+    let chad = chad_numbers(encoding)?;
+    // Under D65 gray is refused by 8 alone.
+    let unmarked = profile(&Encoding::gray(D65, encoding.curve, encoding.intent))?;
+    let letters: Vec<u16> = description(encoding).encode_utf16().collect();
+    let mut sheet = Sheet::of_file(&unmarked);
+    let [desc, _, wtpt, _] = &mut sheet.tags[..] else {
+        panic!("the original's gray has four tags")
+    };
+    desc.element = Some(profiles::text(&letters));
+    wtpt.element = Some(WTPT.clone());
+    sheet
+        .tags
+        .insert(3, Tag::new(b"chad", numbers(b"sf32", &chad)));
+    Ok(sheet.bytes())
+}
+
+const D65: White = White {
+    kind: 0,
+    wx: 0,
+    wy: 0,
+};
+
+/// The nine numbers of `chad` of the encoding's white, or the refusal: 4 or 5.
+pub fn chad_numbers(encoding: &Encoding) -> Result<[i32; 9], u32> {
+    let floats = chad(encoding).map_err(|refusal| refusal.number)?;
+    Ok(floats.map(|x| leaves::fixed(x.to_bits()).expect("it fits")))
+}
+
+/// The floats that the fixed numbers of an accepted adapted gray are made from, in the file's order.
+pub fn adapted_floats(encoding: &Encoding) -> Vec<f32> {
+    let chad = chad(encoding).expect("the encoding is accepted");
+    let curve = match encoding.curve.kind {
+        GAMMA => vec![reciprocal(encoding.curve)],
+        name => profiles::named_floats(name).to_vec(),
+    };
+    [&D50[..], &chad, &curve].concat()
 }
 
 /// The letters of a text in UTF-16, the higher byte first.
@@ -132,8 +185,7 @@ fn by_pieces(encoding: &Encoding) -> Result<(), Refusal> {
         let white = piece(open::cie_xyz_from_white_cie_xy(wx, wy))?;
         fit(7, white)?;
     } else {
-        let chad = piece(open::adapt_to_xyz_d50(wx, wy))?;
-        fit(5, chad.into_iter().flatten().map(|value| value as f32))?;
+        chad(encoding)?;
         let xy = encoding.primaries.coordinates();
         let xy = xy.expect("a kind with meaning");
         let rows = piece(open::create_icc_rgb_matrix(xy, wx, wy))?;
@@ -141,9 +193,22 @@ fn by_pieces(encoding: &Encoding) -> Result<(), Refusal> {
         fit(7, (0..9).map(|at| rows[at % 3][at / 3]))?;
     }
     if encoding.curve.kind == GAMMA {
-        fit(8, [1.0 / f32::from_bits(encoding.curve.gamma)])?;
+        fit(8, [reciprocal(encoding.curve)])?;
     }
     Ok(())
+}
+
+/// `adapt_to_xyz_d50` of the encoding's white, narrowed as the original narrows it, row by row.
+fn chad(encoding: &Encoding) -> Result<[f32; 9], Refusal> {
+    let (wx, wy) = encoding.white.coordinates().expect("a kind with meaning");
+    let rows = piece(open::adapt_to_xyz_d50(wx, wy))?;
+    let floats = std::array::from_fn(|at| rows[at / 3][at % 3] as f32);
+    fit(5, floats)?;
+    Ok(floats)
+}
+
+fn reciprocal(gamma: Curve) -> f32 {
+    1.0 / f32::from_bits(gamma.gamma)
 }
 
 /// A piece's own error, as a refusal.

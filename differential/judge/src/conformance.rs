@@ -5,15 +5,18 @@ use std::collections::HashSet;
 use std::io::{BufRead, BufWriter, Write};
 
 use crate::answer;
-use crate::encoding::{BT709, Curve, Encoding, GAMMA, LINEAR, OWN, Primaries, SRGB_CURVE, White};
+use crate::encoding::{
+    BT709, Curve, DCI_CURVE, Encoding, GAMMA, GRAY, LINEAR, OWN, Primaries, SRGB_CURVE, White,
+};
 use crate::inputs::Random;
 use crate::inputs::colours::{exact_determinant, named_primaries};
 use crate::inputs::encodings::{self, SRGB};
 use crate::leaves;
 use crate::list::hex;
 
-/// The encodings of the list.
+/// The encodings of the list, adapted gray aside, and those of adapted gray, which stand behind them.
 const COUNT: usize = 3600;
+const ADAPTED: usize = 150;
 
 /// Bytes of an output that is long enough for every profile.
 const ROOM: usize = 1200;
@@ -91,12 +94,13 @@ impl Case {
 
     fn line(&self) -> String {
         let Encoding {
-            kind,
             white,
             primaries,
             curve,
             intent,
+            ..
         } = self.encoding;
+        let kind = self.encoding.section();
         let xy = primaries.xy.map(|bits| format!("{bits:08x}")).join(" ");
         format!(
             "{} {kind} {} {:08x} {:08x} {} {xy} {} {:08x} {intent}",
@@ -124,10 +128,12 @@ impl Case {
         let number = |field: &str| field.parse().ok();
         let bits = |field: &str| u32::from_str_radix(field, 16).ok();
         let xy: Option<Vec<u32>> = xy.iter().map(|field| bits(field)).collect();
+        let (kind, adapted) = Encoding::kind_and_mark(number(kind)?);
         Some(Self {
             room: room.parse().ok()?,
             encoding: Encoding {
-                kind: number(kind)?,
+                kind,
+                adapted,
                 white: White {
                     kind: number(white)?,
                     wx: bits(wx)?,
@@ -187,12 +193,61 @@ fn groups(seed: u64) -> Vec<Group> {
         whole: false,
         cases,
     });
+    all.extend(adapted_groups(&mut random));
     all
 }
 
-/// One at random; one output in eight is about as long as the profile, or of any length.
+/// Adapted gray: its profile of the first whole, then both sides of its boundaries, outputs about the
+/// length, numbers without meaning, and random ones.
+fn adapted_groups(random: &mut Random) -> [Group; 2] {
+    let examples = group("gray adapted to D50: examples", true, adapted_examples());
+    let mut cases: Vec<Case> = encodings::adapted().into_iter().map(roomy).collect();
+    let named = Encoding::adapted_gray(White::named(0), SRGB, 1);
+    cases.extend([0, 328, 383, 384, 385].map(|room| Case {
+        room,
+        encoding: named,
+    }));
+    let unknown = unknown().into_iter().filter(|one| one.kind == GRAY);
+    let unknown = unknown.map(|one| Encoding {
+        adapted: true,
+        ..one
+    });
+    cases.extend(unknown.map(roomy));
+    let mut seen: HashSet<Case> = examples.cases.iter().copied().collect();
+    cases.retain(|case| seen.insert(*case));
+    while seen.len() < ADAPTED {
+        let adapted = encodings::any(random).to_adapted_gray();
+        let case = adapted.map(|encoding| with_room(random, encoding));
+        cases.extend(case.filter(|case| seen.insert(*case)));
+    }
+    let others = Group {
+        name: "gray adapted to D50: boundaries, and random ones",
+        whole: false,
+        cases,
+    };
+    [examples, others]
+}
+
+/// D65 with each curve, and whites of the inputs of docs/SUPPLIER.md.
+fn adapted_examples() -> Vec<Encoding> {
+    let adapted = |one: Encoding| one.to_adapted_gray().expect("it has a white");
+    let whites = shown_by_whites().into_iter().take(4).map(adapted);
+    let curves = [SRGB_CURVE, BT709, LINEAR, DCI_CURVE].map(Curve::named);
+    let curves = curves.into_iter().chain([Curve::gamma(0.5)]);
+    curves
+        .map(|curve| Encoding::adapted_gray(White::named(0), curve, 1))
+        .chain(whites)
+        .collect()
+}
+
+/// One at random.
 fn any(random: &mut Random) -> Case {
     let encoding = encodings::any(random);
+    with_room(random, encoding)
+}
+
+/// One output in eight is about as long as the profile, or of any length.
+fn with_room(random: &mut Random, encoding: Encoding) -> Case {
     let length = answer::profile(&encoding).map_or(0, |profile| profile.len());
     let room = match random.below(32) {
         0 => length.saturating_sub(1),

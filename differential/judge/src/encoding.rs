@@ -12,6 +12,10 @@ pub const GRAY: u8 = 1;
 pub const RGB: u8 = 2;
 pub const XYB: u8 = 3;
 
+/// Adapted gray, which is gray with the mark of 02's order 9, where a list has one number for kind and
+/// mark.
+pub const ADAPTED_GRAY: u8 = 4;
+
 /// The number of the own white and of the own primaries.
 pub const OWN: u8 = 3;
 
@@ -57,6 +61,9 @@ pub struct Encoding {
     pub primaries: Primaries,
     pub curve: Curve,
     pub intent: u8,
+    /// The mark of 02's order 9, which only gray has: its white is adapted to D50. The original writes
+    /// none with it.
+    pub adapted: bool,
 }
 
 /// Maker and model of 02's order 6, four bytes each, the first the most significant. The original
@@ -196,6 +203,14 @@ impl Encoding {
             primaries,
             curve,
             intent,
+            ..Self::default()
+        }
+    }
+
+    pub fn adapted_gray(white: White, curve: Curve, intent: u8) -> Self {
+        Self {
+            adapted: true,
+            ..Self::gray(white, curve, intent)
         }
     }
 
@@ -207,12 +222,35 @@ impl Encoding {
         }
     }
 
+    /// Adapted gray of the same white, curve and intent; None for XYB, which has no white.
+    pub fn to_adapted_gray(&self) -> Option<Self> {
+        let adapted = Self::adapted_gray(self.white, self.curve, self.intent);
+        (self.kind != XYB).then_some(adapted)
+    }
+
+    /// Its number in a list: that of its kind, or of adapted gray.
+    pub fn section(&self) -> u8 {
+        if self.adapted {
+            ADAPTED_GRAY
+        } else {
+            self.kind
+        }
+    }
+
+    /// Kind and mark of a number in a list. One that no list has is left as it is.
+    pub fn kind_and_mark(section: u8) -> (u8, bool) {
+        match section {
+            ADAPTED_GRAY => (GRAY, true),
+            kind => (kind, false),
+        }
+    }
+
     /// Whether the curve is PQ or HLG, which the port refuses before all else.
     pub fn is_pq_or_hlg(&self) -> bool {
         self.kind != XYB && matches!(self.curve.kind, PQ | HLG)
     }
 
-    /// The original's enum. None where a number has no meaning.
+    /// The original's enum, which has no mark. None where a number has no meaning.
     pub fn original(&self) -> Option<JxlColorEncoding> {
         let rendering_intent = match self.intent {
             0 => RenderingIntent::Perceptual,

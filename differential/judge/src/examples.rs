@@ -3,12 +3,13 @@
 
 use crate::answer;
 use crate::encoding::{Curve, Encoding, Primaries, White};
-use crate::inputs::colours::named_primaries;
+use crate::inputs::colours::{self, named_primaries};
 use crate::inputs::encodings::SRGB;
 use crate::inputs::job_cases;
 use crate::jobs;
 use crate::leaves;
 use crate::list::hex;
+use crate::profiles;
 
 /// RFC 1321's test messages and their digests, appendix A.5.
 pub const RFC_1321: [(&str, &str); 7] = [
@@ -57,6 +58,7 @@ pub fn all() -> Vec<Example> {
     all.extend(texts());
     all.extend(profiles());
     all.extend(intents_of_xyb());
+    all.extend(adapted_gray());
     all.extend(gammas());
     all.extend(layout());
     all.extend(curves());
@@ -131,6 +133,15 @@ impl Run {
             number,
         }
     }
+
+    fn example(self) -> Example {
+        let room = self.room.map_or(usize::MAX, |room| room as usize);
+        let found = match answer::profile_within(&self.encoding, room) {
+            Ok(profile) => profile.len() as u32,
+            Err(refusal) => refusal,
+        };
+        Example::new(self.name, &self.number.to_string(), found.to_string())
+    }
 }
 
 /// The examples that are run and not proved; the fixed list has them too.
@@ -193,16 +204,8 @@ fn profiles() -> Vec<Example> {
         "sRGB",
         answer::description(&srgb(0)),
     );
-    let found = |one: Run| {
-        let room = one.room.map_or(usize::MAX, |room| room as usize);
-        let found = match answer::profile_within(&one.encoding, room) {
-            Ok(profile) => profile.len() as u32,
-            Err(refusal) => refusal,
-        };
-        Example::new(one.name, &one.number.to_string(), found.to_string())
-    };
     std::iter::once(text)
-        .chain(tried.into_iter().map(found))
+        .chain(tried.into_iter().map(Run::example))
         .collect()
 }
 
@@ -235,6 +238,56 @@ fn intents_of_xyb() -> Vec<Example> {
         }
     }
     all
+}
+
+/// Gray adapted to D50, by the words of 02's order 9: lengths and refusals, tags, `wtpt`, the text of
+/// the same gray without the mark, and `chad` of the RGB file of the same white.
+fn adapted_gray() -> Vec<Example> {
+    let unmarked = Encoding::gray(White::named(0), SRGB, 1);
+    let marked = Encoding::adapted_gray(White::named(0), SRGB, 1);
+    let mut all: Vec<Example> = adapted_runs().into_iter().map(Run::example).collect();
+    let chad = |encoding: &Encoding| hex(element(&profile(encoding), b"chad"));
+    for (what, expected, found) in [
+        ("tags", "desc cprt wtpt chad kTRC", tags(&marked)),
+        ("wtpt", "63190 65536 54061", fixed_of(&marked, b"wtpt", 8)),
+        (
+            "text",
+            &answer::description(&unmarked),
+            answer::description(&marked),
+        ),
+        ("chad", &chad(&srgb(1)), chad(&marked)),
+    ] {
+        all.push(Example::new(
+            &format!("adapted gray: {what}"),
+            expected,
+            found,
+        ));
+    }
+    all
+}
+
+/// Adapted gray: the length that 02's order 9 gives, outputs about it, and the refusals 4, 5 and 8.
+pub fn adapted_runs() -> Vec<Run> {
+    let own = |wx, wy| Encoding::adapted_gray(White::own(wx, wy), SRGB, 1);
+    let named = Encoding::adapted_gray(White::named(0), SRGB, 1);
+    let gamma = |g| Encoding::adapted_gray(White::named(0), Curve::gamma(g), 0);
+    let by_a_line = own(0.3, colours::ZERO_LINES[1].wy(0.3));
+    let within = |name, room, number| Run {
+        room: Some(room),
+        ..Run::new(name, named, number)
+    };
+    vec![
+        Run::new("adapted gray D65 Relative SRGB", named, 384),
+        within("the same, output 384", 384, 384),
+        within("the same, output 383", 383, 9),
+        Run::new("adapted gray with wy 0", own(0.3, 0.0), 4),
+        Run::new("adapted gray with wx below 0", own(-0.1, 0.3), 4),
+        // Its text has 31 letters, and that of D65 15.
+        Run::new("adapted gray (0, 1e-12)", own(0.0, 1e-12), 384 + 2 * 16),
+        Run::new("adapted gray with M about 0", by_a_line, 5),
+        Run::new("adapted gray with gamma 0", gamma(0.0), 8),
+        Run::new("adapted gray with gamma 1/32768", gamma(1.0 / 32768.0), 8),
+    ]
 }
 
 fn gammas() -> Vec<Example> {
@@ -367,25 +420,12 @@ fn profile(encoding: &Encoding) -> Vec<u8> {
     answer::profile(encoding).expect("the encodings of the examples are accepted")
 }
 
-/// The entries of the tag table: signature, offset, size.
-fn table(file: &[u8]) -> Vec<([u8; 4], usize, usize)> {
-    let word = |at: usize| -> [u8; 4] { file[at..at + 4].try_into().expect("four bytes") };
-    let number = |at| u32::from_be_bytes(word(at)) as usize;
-    (0..number(128))
-        .map(|entry| 132 + 12 * entry)
-        .map(|at| (word(at), number(at + 4), number(at + 8)))
-        .collect()
-}
-
 fn element<'a>(file: &'a [u8], tag: &[u8; 4]) -> &'a [u8] {
-    let found = table(file).into_iter().find(|entry| entry.0 == *tag);
-    let (_, offset, size) = found.expect("the tags of the examples are present");
-    &file[offset..offset + size]
+    profiles::element(file, tag).expect("the tags of the examples are present")
 }
 
 fn tags(encoding: &Encoding) -> String {
-    let names: Vec<String> = table(&profile(encoding))
-        .iter()
+    let names: Vec<String> = profiles::table(&profile(encoding))
         .map(|entry| String::from_utf8_lossy(&entry.0).into_owned())
         .collect();
     names.join(" ")

@@ -21,7 +21,7 @@ const UNTOUCHED: u8 = 165;
 
 /// The first line of a list.
 pub fn first_line(seed: u64) -> String {
-    format!("merqyduk vectors, format 4, seed {seed}, jxl-rs {COMMIT}")
+    format!("merqyduk vectors, format 5, seed {seed}, jxl-rs {COMMIT}")
 }
 
 /// The input of a record.
@@ -118,8 +118,8 @@ impl Input {
             Self::Colours(Colours { wx, wy, xy }) => [words(&[*wx, *wy]), words(xy)].concat(),
             Self::GrayWhite(wx, wy) => words(&[*wx, *wy]),
             Self::Encoding(room, encoding) => {
-                let kind = format!("{:02x}", encoding.kind);
-                vec![kind, word(*room), hex(&entry(encoding))]
+                let section = format!("{:02x}", encoding.section());
+                vec![section, word(*room), hex(&entry(encoding))]
             }
         }
     }
@@ -175,12 +175,19 @@ impl Input {
             }
             "g" => Self::GrayWhite(take_word(&mut rest)?, take_word(&mut rest)?),
             "e" => {
-                let (kind, after) = rest.split_first()?;
+                let (section, after) = rest.split_first()?;
                 rest = after;
                 let room = take_word(&mut rest)?;
-                let encoding = jobs::encoding(*kind, rest)?;
+                let (kind, adapted) = Encoding::kind_and_mark(*section);
+                let encoding = jobs::encoding(kind, rest)?;
                 rest = &[];
-                Self::Encoding(room, encoding)
+                Self::Encoding(
+                    room,
+                    Encoding {
+                        adapted,
+                        ..encoding
+                    },
+                )
             }
             _ => return None,
         };
@@ -188,7 +195,8 @@ impl Input {
     }
 }
 
-/// The entry of an encoding in a job: the bytes of its section after the count.
+/// The entry of an encoding in a job: the bytes of its section after the count. Adapted gray, which no
+/// job has, has those of gray.
 fn entry(encoding: &Encoding) -> Vec<u8> {
     let job = Job::of(&[*encoding]);
     let count = job.counts[usize::from(encoding.kind) - 1];
@@ -236,7 +244,9 @@ fn read(file: &[u8]) -> Vec<String> {
     let numbers = plan.chad.iter().chain(&plan.columns);
     fields.extend(numbers.map(|number| word(*number as u32)));
     let Device { maker, model } = plan.device;
-    fields.extend(words(&[maker, model, plan.id_not_computed.into()]));
+    let marks = [plan.id_not_computed, plan.adapted].map(u32::from);
+    fields.extend(words(&[maker, model]));
+    fields.extend(words(&marks));
     fields.push(hex(&plan.text));
     fields
 }

@@ -27,6 +27,7 @@ ENCODING is one of
   1 WHITE WX WY CURVE GAMMA INTENT
   2 WHITE WX WY PRIMARIES RX RY GX GY BX BY CURVE GAMMA INTENT
   3 INTENT
+  4 WHITE WX WY CURVE GAMMA INTENT (gray adapted to D50)
 WHITE: 0 D65, 1 E, 2 DCI, 3 own. PRIMARIES: 0 SRGB, 1 BT2100, 2 P3, 3 own.
 CURVE: 0 BT709, 1 Linear, 2 SRGB, 3 PQ, 4 DCI, 5 HLG, 6 gamma.
 INTENT: 0 Perceptual, 1 Relative, 2 Saturation, 3 Absolute.
@@ -235,6 +236,7 @@ impl Words<'_> {
                 Encoding::rgb(white, primaries, self.curve()?, self.small()?)
             }
             3 => Encoding::xyb(self.small()?),
+            4 => Encoding::adapted_gray(self.white()?, self.curve()?, self.small()?),
             _ => return Err(format!("no kind of encoding: {kind}")),
         };
         match encoding.original() {

@@ -4,12 +4,16 @@
 //! the named curves are its floats, made fixed numbers by it: nothing here is shared with the
 //! judge's reader.
 
+use std::ops::Range;
 use std::sync::LazyLock;
 
 use crate::encoding::{Encoding, GAMMA, GRAY, RGB, White, XYB};
 use crate::inputs::encodings::SRGB;
 use crate::reader::{Plan, id};
 use crate::{answer, leaves};
+
+/// The white of `wtpt` of RGB, as the original has it.
+pub const D50: [f32; 3] = [0.964203, 1.0, 0.824905];
 
 /// A tag; without an element of its own it names the one before.
 #[derive(Clone)]
@@ -65,9 +69,7 @@ impl Sheet {
         tags.push(Tag::new(b"desc", text(&letters)));
         tags.push(Tag::new(b"cprt", text(&b"CC0".map(u16::from))));
         if plan.kind == GRAY {
-            let [x, z] = plan.white;
-            tags.push(Tag::new(b"wtpt", numbers(b"XYZ ", &[x, 65536, z])));
-            tags.push(Tag::new(b"kTRC", curve(plan)));
+            gray_tags(plan, &mut tags);
         } else {
             rgb_tags(plan, &mut tags);
         }
@@ -75,6 +77,19 @@ impl Sheet {
             header,
             tags,
             id_not_computed,
+        }
+    }
+
+    /// Of a profile in which each tag has an element of its own.
+    pub fn of_file(file: &[u8]) -> Self {
+        let tag = |(signature, at): ([u8; 4], Range<usize>)| Tag {
+            signature,
+            element: Some(file[at].to_vec()),
+        };
+        Self {
+            header: file[..128].to_vec(),
+            tags: table(file).map(tag).collect(),
+            id_not_computed: false,
         }
     }
 
@@ -136,11 +151,24 @@ pub fn change_id(file: &mut [u8], bit: usize) {
     }
 }
 
+/// `wtpt` with D50, and `chad`.
+fn adapted_tags(plan: &Plan, tags: &mut Vec<Tag>) {
+    tags.push(Tag::new(b"wtpt", numbers(b"XYZ ", &d50())));
+    tags.push(Tag::new(b"chad", numbers(b"sf32", &plan.chad)));
+}
+
+fn gray_tags(plan: &Plan, tags: &mut Vec<Tag>) {
+    let [x, z] = plan.white;
+    match plan.adapted {
+        true => adapted_tags(plan, tags),
+        false => tags.push(Tag::new(b"wtpt", numbers(b"XYZ ", &[x, 65536, z]))),
+    }
+    tags.push(Tag::new(b"kTRC", curve(plan)));
+}
+
 fn rgb_tags(plan: &Plan, tags: &mut Vec<Tag>) {
     debug_assert_eq!(plan.kind, RGB);
-    let d50 = [0.964203f32, 1.0, 0.824905].map(fixed);
-    tags.push(Tag::new(b"wtpt", numbers(b"XYZ ", &d50)));
-    tags.push(Tag::new(b"chad", numbers(b"sf32", &plan.chad)));
+    adapted_tags(plan, tags);
     if plan.cicp != 0 {
         tags.push(cicp(plan.cicp, transfer(plan.curve)));
     }
@@ -166,19 +194,27 @@ fn xyb_tags(intent: u32) -> Vec<Tag> {
     WRITTEN[intent as usize].clone()
 }
 
-/// The tags of a profile of which none shares its element.
 fn tags_written(encoding: &Encoding) -> Vec<Tag> {
     let file = answer::profile(encoding).expect("accepted");
-    let word = |at: usize| u32::from_be_bytes(file[at..at + 4].try_into().expect("four bytes"));
-    let lines = (0..word(128) as usize).map(|line| 132 + 12 * line);
-    let tags = lines.map(|at| {
-        let (offset, size) = (word(at + 4) as usize, word(at + 8) as usize);
-        Tag {
-            signature: file[at..at + 4].try_into().expect("four bytes"),
-            element: Some(file[offset..offset + size].to_vec()),
-        }
-    });
-    tags.collect()
+    Sheet::of_file(&file).tags
+}
+
+/// The lines of a tag table: the signature, and where the element stands.
+pub fn table(file: &[u8]) -> impl Iterator<Item = ([u8; 4], Range<usize>)> {
+    let word = |bytes: &[u8]| u32::from_be_bytes(bytes.try_into().expect("four bytes")) as usize;
+    let count = file.get(128..132).map_or(0, word);
+    let lines = file.get(132..).unwrap_or_default().chunks_exact(12);
+    lines.take(count).map(move |line| {
+        let (signature, offset) = (line[..4].try_into(), word(&line[4..8]));
+        let place = offset..offset + word(&line[8..]);
+        (signature.expect("four bytes"), place)
+    })
+}
+
+/// The element of a tag; None where a profile has no such tag.
+pub fn element<'a>(file: &'a [u8], signature: &[u8; 4]) -> Option<&'a [u8]> {
+    let (_, place) = table(file).find(|line| line.0 == *signature)?;
+    file.get(place)
 }
 
 /// A text element of any letters.
@@ -220,20 +256,29 @@ fn curve(plan: &Plan) -> Vec<u8> {
     }
 }
 
+/// The numbers of that white.
+pub fn d50() -> [i32; 3] {
+    D50.map(fixed)
+}
+
 fn fixed(x: f32) -> i32 {
     leaves::fixed(x.to_bits()).expect("a fixed number")
 }
 
 /// The five numbers of a named curve.
 pub fn named(name: u8) -> [i32; 5] {
-    let floats: [f32; 5] = match name {
+    named_floats(name).map(fixed)
+}
+
+/// The floats that the original makes them from.
+pub fn named_floats(name: u8) -> [f32; 5] {
+    match name {
         0 => [1.0 / 0.45, 1.0 / 1.099, 0.099 / 1.099, 1.0 / 4.5, 0.081],
         1 => [1.0, 1.0, 0.0, 1.0, 0.0],
         2 => [2.4, 1.0 / 1.055, 0.055 / 1.055, 1.0 / 12.92, 0.04045],
         4 => [2.6, 1.0, 0.0, 1.0, 0.0],
         _ => panic!("no named curve {name}"),
-    };
-    floats.map(fixed)
+    }
 }
 
 /// The `cicp` transfer value of a curve; that of a gamma is none, 2 stands in.

@@ -166,7 +166,7 @@ pub fn record(encoding: &Encoding) -> [u8; RECORD] {
     bytes.try_into().expect("a record has 41 bytes")
 }
 
-/// The encoding of a record; its numbers are taken as they are.
+/// The encoding of a record; its numbers are taken as they are. A record means gray that is not adapted.
 pub fn of_record(record: &[u8; RECORD]) -> Encoding {
     let float = |at: usize| u32::from_be_bytes(record[at..at + 4].try_into().expect("four bytes"));
     Encoding {
@@ -185,6 +185,7 @@ pub fn of_record(record: &[u8; RECORD]) -> Encoding {
             gamma: float(36),
         },
         intent: record[40],
+        adapted: false,
     }
 }
 

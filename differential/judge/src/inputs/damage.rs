@@ -4,15 +4,16 @@ use super::plans::{self, ENDS, NAMED, PRIMARIES};
 use super::random::Random;
 use super::{below, byte, devices};
 use crate::answer;
-use crate::encoding::{Encoding, XYB};
+use crate::encoding::{Encoding, GRAY, XYB};
 use crate::profiles::{
-    self, Sheet, Tag, change_id, cicp, header, parametric, set_id, set_size, zero_id,
+    self, Sheet, Tag, change_id, cicp, header, numbers, parametric, set_id, set_size, zero_id,
 };
 use crate::reader::Plan;
 
 /// A file for the reader: three in ten are whole, the others have faults, one or several. In half of
 /// them the id is made anew after the faults; in one of 24 a bit of it is changed; in some zeros take
-/// its place. Of XYB some have another text, whatever else they have.
+/// its place. Of XYB some have another text, of gray some another white or `chad`, whatever else they
+/// have.
 pub fn file(random: &mut Random) -> Vec<u8> {
     let plan = match random.below(3) {
         0 => Plan {
@@ -22,9 +23,12 @@ pub fn file(random: &mut Random) -> Vec<u8> {
         _ => plans::plan(random),
     };
     let mut sheet = Sheet::of(&plan);
-    if plan.kind == XYB {
-        // Numbers of its own: those set apart here have made maker, model and intent.
-        text_of_xyb(&mut Random::new(random.apart().bits64()), &mut sheet);
+    // Numbers of their own: those set apart here have made maker, model and intent of XYB.
+    let mut own = Random::new(random.apart().bits64());
+    match plan.kind {
+        XYB => text_of_xyb(&mut own, &mut sheet),
+        GRAY => white_of_gray(&mut own, &mut sheet),
+        _ => {}
     }
     let (in_tags, in_bytes) = match random.below(20) {
         0..6 => (0, 0),
@@ -114,6 +118,48 @@ fn text_of_xyb(random: &mut Random, sheet: &mut Sheet) {
         _ => return,
     }
     element(sheet, b"desc", profiles::text(&text));
+}
+
+/// Of gray files, adapted or not, one in four gets another white, or a `chad` that is left out, added,
+/// of another type, size or name, or in another place.
+fn white_of_gray(random: &mut Random, sheet: &mut Sheet) {
+    let d50 = profiles::d50();
+    match (random.below(32), sheet.tags.len() == 5) {
+        (0, true) => sheet.tags.swap(2, 3),
+        (1, true) => sheet.tags.swap(3, 4),
+        (2, true) => drop(sheet.tags.remove(3)),
+        (3, true) => {
+            let kind = random.pick(&[b"XYZ ", b"sf3\0", b"SF32", b"para"]);
+            element(sheet, b"chad", nine(random, kind));
+        }
+        (4, true) => {
+            let mut chad = nine(random, b"sf32");
+            chad.resize(chad.len() + below(random, 9) - 4, 0);
+            element(sheet, b"chad", chad);
+        }
+        (5, true) => sheet.tags[3].signature = *random.pick(&[b"cicp", b"CHAD", b"rXYZ", b"wtpt"]),
+        (at @ 0..5, false) => {
+            let chad = nine(random, b"sf32");
+            let place = random.pick(&[2, 3, 3, 3, 4]);
+            sheet.tags.insert(place, Tag::new(b"chad", chad));
+            if at < 3 {
+                element(sheet, b"wtpt", numbers(b"XYZ ", &d50));
+            }
+        }
+        (6, _) => element(sheet, b"wtpt", numbers(b"XYZ ", &d50)),
+        (7, _) => {
+            let mut white = d50;
+            let (at, any) = (below(random, 3), plans::number(random));
+            white[at] = random.pick(&[white[at] + 1, white[at] - 1, any]);
+            element(sheet, b"wtpt", numbers(b"XYZ ", &white));
+        }
+        _ => {}
+    }
+}
+
+/// An element of a type with nine numbers.
+fn nine(random: &mut Random, kind: &[u8; 4]) -> Vec<u8> {
+    numbers(kind, &[0; 9].map(|_| plans::number(random)))
 }
 
 /// Tags or parts of them exchanged, left out or there twice.

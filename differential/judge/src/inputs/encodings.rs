@@ -350,6 +350,75 @@ fn odd_coordinates() -> Vec<Encoding> {
     all
 }
 
+/// Adapted gray for the lists: the named whites with each curve, own ones that show roundings, both
+/// sides of each boundary, and two refusals at once. The comparisons take the whites, curves and
+/// intents of all their encodings instead.
+pub fn adapted() -> Vec<Encoding> {
+    let gamma = Curve::gamma(0.454_545_47);
+    let mut all = Vec::new();
+    for (at, kind) in (0..=GAMMA).enumerate() {
+        let curve = if kind == GAMMA {
+            gamma
+        } else {
+            Curve::named(kind)
+        };
+        let one = |white| {
+            let intent = (at + usize::from(white)) % 4;
+            Encoding::adapted_gray(White::named(white), curve, intent as u8)
+        };
+        all.extend([0, 1, 2].map(one));
+    }
+    let own = |(wx, wy): Xy| Encoding::adapted_gray(White::own(wx, wy), SRGB, 1);
+    all.extend(adapted_whites().into_iter().map(own));
+    for (line, wx) in ZERO_LINES.into_iter().zip([0.11, 0.3, 0.3]) {
+        let wy = line.wy(wx);
+        all.extend(change(|wy| own((wx, wy)), wy + 0.01, wy));
+    }
+    for gamma in [f32::INFINITY, -0.5, 131_072.0] {
+        let curve = Curve::gamma(gamma);
+        all.push(Encoding::adapted_gray(White::named(1), curve, 2));
+    }
+    let outside = White::own(0.3, 0.0);
+    let by_a_line = White::own(0.3, ZERO_LINES[1].wy(0.3));
+    let pq = Curve::named(crate::encoding::PQ);
+    for (white, curve) in [(outside, pq), (by_a_line, pq)] {
+        all.push(Encoding::adapted_gray(white, curve, 3));
+    }
+    for white in [outside, by_a_line] {
+        all.push(Encoding::adapted_gray(white, Curve::gamma(0.0), 3));
+    }
+    all
+}
+
+/// Own whites: of the cases of docs/SUPPLIER.md that show roundings of `chad`, at the ends of the range,
+/// inside and outside, and two at which a component of LMS is zero.
+fn adapted_whites() -> Vec<Xy> {
+    let bits = |x, y| (f32::from_bits(x), f32::from_bits(y));
+    let mut all = vec![
+        (0.3113, 0.7),
+        bits(0x274a_c7b4, 0x3f6f_fd61),
+        bits(0x3eeb_501a, 0x3e46_a232),
+        (0.0404, 0.276_604),
+        (0.0, SMALLEST),
+        (0.925, 0.56),
+        (0.345_67, 0.3585),
+        (0.25, 0.5),
+        (0.0, 1.0),
+        (-0.0, 0.329),
+        (1.0, 1.0),
+    ];
+    let above = 1f32.next_up();
+    all.extend([(-SMALLEST, 0.329), (above, 0.329), (0.3127, above)]);
+    all.extend([(0.3127, 0.0), (0.3127, -0.0), (0.3127, -SMALLEST)]);
+    all.extend([
+        (f32::NAN, 0.329),
+        (0.3127, f32::NAN),
+        (0.3127, f32::INFINITY),
+    ]);
+    all.extend(colours::zero_whites().into_iter().take(2));
+    all
+}
+
 /// The longest texts: 449 bytes, which is refused, and the longest known to be accepted.
 fn long_texts() -> Vec<Encoding> {
     let least = Curve::gamma(f32::MIN);

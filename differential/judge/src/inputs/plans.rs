@@ -73,8 +73,27 @@ pub fn of_shape(random: &mut Random, kind: u8, letters: usize, gamma: bool, cicp
     plan
 }
 
+/// The gray plan adapted to D50: with nine numbers of `chad` in place of X and Z.
+pub fn adapted(random: &mut Random, gray: Plan) -> Plan {
+    Plan {
+        adapted: true,
+        white: [0; 2],
+        chad: [0; 9].map(|_| number(random)),
+        ..gray
+    }
+}
+
+/// Half of the gray plans are adapted.
+pub fn half_adapted(random: &mut Random, plan: Plan) -> Plan {
+    match plan.kind {
+        GRAY if random.percent(50) => adapted(random, plan),
+        _ => plan,
+    }
+}
+
 /// Any plan.
 pub fn plan(random: &mut Random) -> Plan {
+    let mut own = Random::new(random.apart().bits64());
     let kind = match random.below(20) {
         0 => XYB,
         1..8 => GRAY,
@@ -87,19 +106,31 @@ pub fn plan(random: &mut Random) -> Plan {
     };
     let gamma = random.percent(40);
     let cicp = !gamma && random.percent(60);
-    of_shape(random, kind, letters, gamma, cicp)
+    let plan = of_shape(random, kind, letters, gamma, cicp);
+    half_adapted(&mut own, plan)
 }
 
-/// The plan of a profile that the original writes.
+/// A profile that the original writes. Of the gray ones half are adapted, where that is written too.
+pub fn written_file(random: &mut Random) -> Vec<u8> {
+    let mut own = Random::new(random.apart().bits64());
+    loop {
+        let encoding = encodings::any(random);
+        let Ok(file) = answer::profile(&encoding) else {
+            continue;
+        };
+        let adapted = encoding.kind == GRAY && own.percent(50);
+        let adapted = encoding.to_adapted_gray().filter(|_| adapted);
+        let adapted = adapted.and_then(|one| answer::profile(&one).ok());
+        return adapted.unwrap_or(file);
+    }
+}
+
+/// The plan of such a profile.
 ///
 /// # Panics
 /// If the judge's reader refuses it, or does not lay out to it: then the judge is wrong.
 pub fn written(random: &mut Random) -> Plan {
-    let file = loop {
-        if let Ok(file) = answer::profile(&encodings::any(random)) {
-            break file;
-        }
-    };
+    let file = written_file(random);
     let plan = reader::read(&file).expect("the original's profiles are accepted");
     assert!(
         Sheet::of(&plan).bytes() == file,

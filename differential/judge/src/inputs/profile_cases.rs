@@ -6,11 +6,11 @@ use super::plans::{self, ENDS, NAMED, PRIMARIES};
 use super::random::Random;
 use crate::encoding::{Device, Encoding, GAMMA, GRAY, RGB, White, XYB};
 use crate::inputs::encodings::SRGB;
-use crate::profiles::{self, Sheet, change_id, cicp, set_id, set_size, zero_id};
+use crate::profiles::{self, Sheet, Tag, change_id, cicp, numbers, set_id, set_size, zero_id};
 use crate::reader::Plan;
 use crate::{answer, reader};
 
-/// Kind, gamma and `cicp` of every shape but XYB's.
+/// Kind, gamma and `cicp` of every shape but those of XYB and adapted gray.
 const SHAPES: [(u8, bool, bool); 5] = [
     (GRAY, false, false),
     (GRAY, true, false),
@@ -50,24 +50,34 @@ fn without_id(file: &[u8]) -> Vec<u8> {
 }
 
 fn cases_of(random: &mut Random, device: Device, files: &mut Vec<Vec<u8>>) {
+    let mut own = Random::new(random.apart().bits64());
     for plan in bases(random) {
-        let plan = Plan { device, ..plan };
-        let file = Sheet::of(&plan).bytes();
-        files.push(file.clone());
-        every_byte(&file, files);
-        every_length(&file, files);
-        length_fields_changed(&file, files);
-        lines_exchanged(&file, files);
-        headers(&file, files);
-        ids(&file, files);
-        if plan.kind == XYB {
-            names_mixed(&plan, files);
-        } else {
-            text_lengths(random, &plan, files);
-            free_numbers(&plan, files);
-        }
-        transfers(&plan, files);
+        cases_of_plan(random, &Plan { device, ..plan }, files);
     }
+    for plan in adapted_bases(&mut own) {
+        let plan = Plan { device, ..plan };
+        cases_of_plan(&mut own, &plan, files);
+        whites(&plan, files);
+        chads(&plan, files);
+    }
+}
+
+fn cases_of_plan(random: &mut Random, plan: &Plan, files: &mut Vec<Vec<u8>>) {
+    let file = Sheet::of(plan).bytes();
+    files.push(file.clone());
+    every_byte(&file, files);
+    every_length(&file, files);
+    length_fields_changed(&file, files);
+    lines_exchanged(&file, files);
+    headers(&file, files);
+    ids(&file, files);
+    if plan.kind == XYB {
+        names_mixed(plan, files);
+    } else {
+        text_lengths(random, plan, files);
+        free_numbers(plan, files);
+    }
+    transfers(plan, files);
 }
 
 /// A plan of each shape, of XYB one for each intent; and the plan of sRGB as it is written.
@@ -83,9 +93,23 @@ fn bases(random: &mut Random) -> Vec<Plan> {
     };
     all.extend((0..4).map(of_intent));
     let srgb = Encoding::rgb(White::named(0), Default::default(), SRGB, 0);
-    let written = answer::profile(&srgb).expect("accepted");
-    all.push(reader::read(&written).expect("accepted"));
+    all.push(written(&srgb));
     all
+}
+
+/// A plan of each shape of adapted gray, and that of D65 as it is written.
+fn adapted_bases(random: &mut Random) -> [Plan; 3] {
+    let [named, gamma] = [(6, false), (7, true)].map(|(letters, gamma)| {
+        let gray = plans::of_shape(random, GRAY, letters, gamma, false);
+        plans::adapted(random, gray)
+    });
+    let d65 = Encoding::adapted_gray(White::named(0), SRGB, 1);
+    [named, gamma, written(&d65)]
+}
+
+fn written(encoding: &Encoding) -> Plan {
+    let file = answer::profile(encoding).expect("accepted");
+    reader::read(&file).expect("accepted")
 }
 
 /// The file with its old id, and with the one that is due.
@@ -235,13 +259,76 @@ fn free_numbers(plan: &Plan, files: &mut Vec<Vec<u8>>) {
         if plan.curve == GAMMA {
             add(&|other| other.gamma = value);
         }
-        match plan.kind {
-            GRAY => (0..2).for_each(|at| add(&|other| other.white[at] = value)),
-            _ => (0..9).for_each(|at| {
-                add(&|other| other.chad[at] = value);
-                add(&|other| other.columns[at] = value);
-            }),
+        if plan.kind == GRAY && !plan.adapted {
+            (0..2).for_each(|at| add(&|other| other.white[at] = value));
+            continue;
         }
+        for at in 0..9 {
+            add(&|other| other.chad[at] = value);
+            if plan.kind == RGB {
+                add(&|other| other.columns[at] = value);
+            }
+        }
+    }
+}
+
+/// Adapted gray with a `wtpt` that is not D50, and the same without its `chad`, which is gray of that
+/// white. D50 itself stands among them.
+fn whites(plan: &Plan, files: &mut Vec<Vec<u8>>) {
+    let d50 = profiles::d50();
+    let beside = (0..3).flat_map(|at| [-1, 1].map(|by| (at, by)));
+    let beside = beside.map(|(at, by)| {
+        let mut white = d50;
+        white[at] += by;
+        white
+    });
+    // That of D65, that of the adaptation, and D50 in another order.
+    let others = [
+        [62289, 65536, 71372],
+        [63191, 65536, 54081],
+        [54061, 65536, 63190],
+        [0; 3],
+        d50,
+    ];
+    for white in beside.chain(others) {
+        let mut sheet = Sheet::of(plan);
+        sheet.tags[2].element = Some(numbers(b"XYZ ", &white));
+        files.push(sheet.bytes());
+        sheet.tags.remove(3);
+        files.push(sheet.bytes());
+    }
+}
+
+/// Adapted gray with a `chad` of another type, size or name, in each other place, twice, or naming the
+/// element of another tag.
+fn chads(plan: &Plan, files: &mut Vec<Vec<u8>>) {
+    let sheet = Sheet::of(plan);
+    let mut add = |change: &dyn Fn(&mut Vec<Tag>)| {
+        let mut other = sheet.clone();
+        change(&mut other.tags);
+        files.push(other.bytes());
+    };
+    for kind in [b"XYZ ", b"sf3\0", b"SF32", b"para", b"mluc", b"chad"] {
+        add(&|tags| tags[3].element = Some(numbers(kind, &plan.chad)));
+    }
+    for numbers_of_chad in [0, 1, 3, 6, 8, 10, 18] {
+        let numbers_of_chad = vec![1; numbers_of_chad];
+        add(&|tags| tags[3].element = Some(numbers(b"sf32", &numbers_of_chad)));
+    }
+    for name in [
+        b"CHAD", b"chaD", b"cicp", b"rXYZ", b"wtpt", b"kTRC", b"rTRC", b"A2B0",
+    ] {
+        add(&|tags| tags[3].signature = *name);
+    }
+    for place in [0, 1, 2, 4] {
+        add(&|tags| {
+            let chad = tags.remove(3);
+            tags.insert(place, chad);
+        });
+    }
+    for tag in 1..5 {
+        add(&|tags| tags[tag].element = None);
+        add(&|tags| tags.insert(tag, tags[3].clone()));
     }
 }
 

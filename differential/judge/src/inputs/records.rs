@@ -8,7 +8,7 @@ use crate::answer;
 use crate::encoding::{Encoding, GRAY, RGB, XYB};
 use crate::examples::{self, RFC_1321, Run};
 use crate::list::{Input, Record, hex, word};
-use crate::profiles::{Sheet, change_id};
+use crate::profiles::{Sheet, Tag, change_id, numbers};
 use crate::reader::{self, LARGEST, Plan};
 
 /// The longest output that a record lends: no profile is as long.
@@ -35,6 +35,7 @@ pub fn all(seed: u64) -> Vec<Record> {
     ));
     all.extend(encoded_examples());
     all.extend(intents_of_xyb());
+    all.extend(adapted_grays(&mut random.apart()));
     let encodings = encodings::encodings(random, 2600);
     let outputs = encodings.into_iter().enumerate();
     all.extend(plain(
@@ -45,6 +46,8 @@ pub fn all(seed: u64) -> Vec<Record> {
     all.extend(infinite_gammas());
     all.extend(ids(&mut random.apart()));
     all.extend(files_of_xyb());
+    let mut own = Random::new(random.apart().bits64());
+    all.extend(files_of_adapted(&mut own));
     all.extend(plain(files(random).into_iter().map(Input::File).collect()));
     all.extend(job_examples());
     all.extend(plain(jobs(random).into_iter().map(Input::Job).collect()));
@@ -73,11 +76,22 @@ fn pattern(length: usize) -> Vec<u8> {
 /// The examples of 01 ("Sheets to try") that are run and not proved: the lengths and refusals are
 /// 01's.
 fn encoded_examples() -> Vec<Record> {
-    let one = |one: Run| Record {
+    examples::run().into_iter().map(of_run).collect()
+}
+
+fn of_run(one: Run) -> Record {
+    Record {
         input: Input::Encoding(one.room.unwrap_or(ROOM), one.encoding),
         given: vec![(0, word(one.number))],
-    };
-    examples::run().into_iter().map(one).collect()
+    }
+}
+
+/// Adapted gray: what 02's order 9 gives, then others into outputs of all sorts.
+fn adapted_grays(random: &mut Random) -> Vec<Record> {
+    let given = examples::adapted_runs().into_iter().map(of_run);
+    let others = encodings::adapted().into_iter().enumerate();
+    let others = others.map(|(at, one)| Input::Encoding(room(random, at, &one), one));
+    given.chain(others.map(Record::new)).collect()
 }
 
 /// XYB of each intent into an output of just its length, and into one that is a byte short. By 02's
@@ -169,6 +183,73 @@ fn files_of_xyb() -> Vec<Record> {
         all.push(refused(intent, 4, intent % 2 == 1, 24));
     }
     all
+}
+
+/// Adapted gray: with its id and with zeros in place of it, by either curve; a `wtpt` that is not D50, a
+/// `chad` of another type, and a letter above 127 with 26; `chad` before `wtpt`, another name in its
+/// place, and one number less with 25; a number outside its range with 27; a bit of the id changed
+/// with 28. The same without `chad` is gray that is not adapted. Given by 02's order 9 are the refusal,
+/// the mark of the id, and that of adapted gray: fields 0, 29 and 30.
+fn files_of_adapted(random: &mut Random) -> Vec<Record> {
+    let [named, gamma] = [false, true].map(|gamma| {
+        let gray = plans::of_shape(random, GRAY, 9, gamma, false);
+        plans::adapted(random, gray)
+    });
+    let zeros = |plan: &Plan| Plan {
+        id_not_computed: true,
+        ..plan.clone()
+    };
+    let accepted = [named.clone(), zeros(&named), gamma.clone(), zeros(&gamma)];
+    let accepted = accepted.map(|plan| {
+        let marks = [plan.id_not_computed, true].map(u32::from);
+        of_marks(Sheet::of(&plan).bytes(), 0, marks)
+    });
+    let sheet = Sheet::of(&named);
+    let changed = |change: &dyn Fn(&mut Vec<Tag>)| {
+        let mut other = sheet.clone();
+        change(&mut other.tags);
+        other.bytes()
+    };
+    let numbers_of = |kind, count| Some(numbers(kind, &named.chad[..count]));
+    let mut near = sheet.bytes();
+    change_id(&mut near, below(random, 128));
+    let mut outside = named.clone();
+    outside.chad[8] = LARGEST + 1;
+    let mut letter = named.clone();
+    letter.text[8] = 128;
+    let refused = [
+        (changed(&|tags| tags.swap(2, 3)), 25),
+        (changed(&|tags| tags[3].signature = *b"cicp"), 25),
+        (
+            changed(&|tags| tags[3].element = numbers_of(b"sf32", 8)),
+            25,
+        ),
+        (
+            changed(&|tags| tags[3].element = numbers_of(b"XYZ ", 9)),
+            26,
+        ),
+        (
+            changed(&|tags| tags[2].element = Some(numbers(b"XYZ ", &[62289, 65536, 71372]))),
+            26,
+        ),
+        (Sheet::of(&letter).bytes(), 26),
+        (Sheet::of(&outside).bytes(), 27),
+        (near, 28),
+    ];
+    let refused = refused.map(|(file, number)| of_marks(file, number, [0; 2]));
+    let unmarked = changed(&|tags| drop(tags.remove(3)));
+    let unmarked = of_marks(unmarked, 0, [0; 2]);
+    let all = accepted.into_iter().chain(refused);
+    all.chain(std::iter::once(unmarked)).collect()
+}
+
+/// The record of a file with its refusal, and the marks of the id and of adapted gray.
+fn of_marks(file: Vec<u8>, refusal: u32, marks: [u32; 2]) -> Record {
+    let [id_not_computed, adapted] = marks.map(word);
+    Record {
+        input: Input::File(file),
+        given: vec![(0, word(refusal)), (29, id_not_computed), (30, adapted)],
+    }
 }
 
 /// The record of a file with its refusal, kind, intent and mark: fields 0, 1, 2 and 29.

@@ -1,11 +1,11 @@
 //! Files to put into segments, sizes and outputs for them, and segments to join.
 
 use super::random::Random;
-use super::{below, byte, damage, encodings, plans};
+use super::{below, byte, damage, plans};
 use crate::encoding::{GRAY, RGB, XYB};
 use crate::profiles::{Sheet, set_size};
+use crate::reader;
 use crate::segments::{self, MOST_DATA, Reading};
-use crate::{answer, reader};
 
 pub use super::segment_faults::{FAULTS, Fault};
 
@@ -92,11 +92,7 @@ fn with_id(random: &mut Random) -> Vec<u8> {
         3 => about_255(random),
         4 => with_a_front(random),
         5..8 => Sheet::of(&plans::of_shape(random, XYB, 0, false, false)).bytes(),
-        _ => loop {
-            if let Ok(file) = answer::profile(&encodings::any(random)) {
-                return file;
-            }
-        },
+        _ => plans::written_file(random),
     }
 }
 
@@ -105,7 +101,9 @@ fn with_id(random: &mut Random) -> Vec<u8> {
 fn about_255(random: &mut Random) -> Vec<u8> {
     let wanted = random.pick(&[508, 512, 764, 768, 1020, 1024]);
     let (kind, gamma) = (random.pick(&[GRAY, RGB]), random.percent(50));
-    let mut plan = plans::of_shape(random, kind, 1, gamma, false);
+    let mut own = Random::new(random.apart().bits64());
+    let plan = plans::of_shape(random, kind, 1, gamma, false);
+    let mut plan = plans::half_adapted(&mut own, plan);
     let shortest = Sheet::of(&plan).bytes().len();
     plan.text = plans::text(random, 1 + (wanted - shortest) / 2);
     Sheet::of(&plan).bytes()
@@ -113,7 +111,14 @@ fn about_255(random: &mut Random) -> Vec<u8> {
 
 /// A profile with the front of a segment in its `chad`, whose numbers may be any.
 fn with_a_front(random: &mut Random) -> Vec<u8> {
-    let mut plan = plans::of_shape(random, RGB, 20, false, false);
+    let mut own = Random::new(random.apart().bits64());
+    let mut plan = match own.below(2) {
+        0 => {
+            let gray = plans::of_shape(random, GRAY, 20, false, false);
+            plans::adapted(&mut own, gray)
+        }
+        _ => plans::of_shape(random, RGB, 20, false, false),
+    };
     let mut front = Vec::new();
     let (number, count) = (random.below(4) as u8, random.below(4) as u8);
     segments::push(&mut front, number, count, &[0; 18]);

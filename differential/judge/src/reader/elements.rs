@@ -70,7 +70,11 @@ impl<'a> Rest<'a> {
         self.numbers()
     }
 
-    fn chad(&mut self) -> Option<[i32; 9]> {
+    /// `wtpt`, which must be D50, and the numbers of `chad`.
+    fn d50_and_chad(&mut self) -> Option<[i32; 9]> {
+        if self.xyz()? != [63190, 65536, 54061] {
+            return None;
+        }
         self.start(b"sf32")?;
         self.numbers()
     }
@@ -112,12 +116,19 @@ pub fn read(file: &[u8], kind: u8, table: &Table) -> Option<Plan> {
 fn gray(rest: &mut Rest, table: &Table) -> Option<Plan> {
     let text = rest.text(table.letters)?;
     copyright(rest)?;
-    let [x, y, z] = rest.xyz()?;
+    let (white, chad) = if table.adapted {
+        ([0; 2], rest.d50_and_chad()?)
+    } else {
+        let [x, y, z] = rest.xyz()?;
+        (y == 65536).then_some(([x, z], [0; 9]))?
+    };
     let (curve, gamma, _) = rest.curve(table.gamma)?;
-    (y == 65536).then_some(Plan {
+    Some(Plan {
         kind: GRAY,
         text,
-        white: [x, z],
+        adapted: table.adapted,
+        white,
+        chad,
         curve,
         gamma,
         ..Plan::default()
@@ -127,10 +138,7 @@ fn gray(rest: &mut Rest, table: &Table) -> Option<Plan> {
 fn rgb(rest: &mut Rest, table: &Table) -> Option<Plan> {
     let text = rest.text(table.letters)?;
     copyright(rest)?;
-    if rest.xyz()? != [63190, 65536, 54061] {
-        return None;
-    }
-    let chad = rest.chad()?;
+    let chad = rest.d50_and_chad()?;
     let cicp = if table.cicp { Some(rest.cicp()?) } else { None };
     let columns = [rest.xyz()?, rest.xyz()?, rest.xyz()?];
     let (curve, gamma, due) = rest.curve(table.gamma)?;

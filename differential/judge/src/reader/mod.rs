@@ -29,6 +29,8 @@ pub struct Plan {
     pub curve: u8,
     pub gamma: i32,
     pub cicp: u8,
+    /// Gray whose white is adapted to D50 (02, order 9): it has `chad`, and no white of its own.
+    pub adapted: bool,
     /// X and Z of a gray white.
     pub white: [i32; 2],
     pub chad: [i32; 9],

@@ -12,6 +12,8 @@ pub struct Table {
     /// A type 0 curve; else type 3.
     pub gamma: bool,
     pub cicp: bool,
+    /// Gray with `chad`.
+    pub adapted: bool,
     bytes: Vec<u8>,
     length: usize,
 }
@@ -40,6 +42,7 @@ impl Table {
             letters,
             gamma,
             cicp,
+            adapted: false,
             bytes,
             length: next,
         }
@@ -59,10 +62,16 @@ fn curve_size(gamma: bool) -> usize {
     if gamma { 16 } else { 32 }
 }
 
-fn gray(letters: usize, gamma: bool) -> Table {
+fn gray(letters: usize, gamma: bool, adapted: bool) -> Table {
     let mut tags = first(letters);
+    if adapted {
+        tags.push((b"chad", Some(44)));
+    }
     tags.push((b"kTRC", Some(curve_size(gamma))));
-    Table::new(letters, gamma, false, &tags)
+    Table {
+        adapted,
+        ..Table::new(letters, gamma, false, &tags)
+    }
 }
 
 fn rgb(letters: usize, gamma: bool, cicp: bool) -> Table {
@@ -89,10 +98,13 @@ fn xyb() -> Table {
     Table::new(letters, false, false, &tags)
 }
 
-/// Every table of a kind: a text of 1 to 372 letters, either curve, `cicp` beside type 3 or not.
+/// Every table of a kind: a text of 1 to 372 letters, either curve, `cicp` beside type 3 or not, `chad`
+/// of gray or not.
 pub fn of_kind(kind: u8) -> &'static [Table] {
     static GRAYS: LazyLock<Vec<Table>> = LazyLock::new(|| {
-        let all = (1..=372).flat_map(|letters| [false, true].map(|gamma| gray(letters, gamma)));
+        let shapes = [(false, false), (false, true), (true, false), (true, true)];
+        let all = (1..=372)
+            .flat_map(|letters| shapes.map(|(gamma, adapted)| gray(letters, gamma, adapted)));
         all.collect()
     });
     static RGBS: LazyLock<Vec<Table>> = LazyLock::new(|| {
