@@ -23,6 +23,7 @@ BRADFORD = ((0.8951, 0.2664, -0.1614), (-0.7502, 1.7135, 0.0367), (0.0389, -0.06
 BRADFORD_INV = ((0.9869929, -0.1470543, 0.1599627), (0.4323053, 0.5183603, 0.0492912), (-0.0085287, 0.0400428, 0.9684867))
 D50 = (0.96422, 1.0, 0.82521)
 D50_FIXED = (63190, 65536, 54061)
+GRAY, RGB, XYB, ADAPTED_GRAY = 1, 2, 3, 4
 OWN, PQ, HLG, GAMMA = 3, 3, 5, 6
 CURVES = {
     0: ("709", 1, (145636, 59632, 5904, 14564, 5308)),
@@ -109,6 +110,11 @@ def adapted(wx, wy):
     if not all(math.isfinite(gain) for gain in gains):
         raise Refused(4)
     return white, product(BRADFORD_INV, product(diagonal(gains), BRADFORD))
+
+
+def chad(adaptation):
+    """[5, 6]"""
+    return (("chad",), sf32([fixed(f32(x), 5) for row in adaptation for x in row]))
 
 
 def inverse(m):
@@ -208,12 +214,16 @@ def xyb(intent):
     return file(b"scnrRGB ", intent, first(f"XYB_{INTENTS[intent]}", D50_FIXED) + elements)
 
 
-def gray(white, curve, g, intent):
+def gray(kind, white, curve, g, intent):
+    """[17] Adapted gray has the white and the `chad` of RGB."""
     white_name, wx, wy = white
-    numbers = gray_white(wx, wy)
+    if kind == ADAPTED_GRAY:
+        numbers, more = D50_FIXED, [chad(adapted(wx, wy)[1])]
+    else:
+        numbers, more = gray_white(wx, wy), []
     curve_name, element = curve_of(curve, g)
     text = f"Gra_{white_name}_{INTENTS[intent]}_{curve_name}"
-    return file(b"mntrGRAY", intent, first(text, numbers) + [(("kTRC",), element)])
+    return file(b"mntrGRAY", intent, first(text, numbers) + more + [(("kTRC",), element)])
 
 
 def curve_of(curve, g):
@@ -228,13 +238,13 @@ def rgb(kinds, white, primaries, g, intent):
     white_kind, primaries_kind, curve = kinds
     (white_name, wx, wy), (primaries_name, xy) = white, primaries
     white_xyz, adaptation = adapted(wx, wy)
-    chad = [fixed(f32(x), 5) for row in adaptation for x in row]
+    chad_element = chad(adaptation)
     m = matrix(xy, white_xyz, adaptation)
     columns = [[fixed(f32(m[r][c]), 7) for r in range(3)] for c in range(3)]
     curve_name, element = curve_of(curve, g)
     text = f"RGB_{white_name}_{primaries_name}_{INTENTS[intent]}_{curve_name}"
     text = {(0, 0, 2, 0): "sRGB", (0, 2, 2, 0): "DisplayP3"}.get((*kinds, intent), text)
-    elements = first(text, D50_FIXED) + [(("chad",), sf32(chad))]
+    elements = first(text, D50_FIXED) + [chad_element]
     cicp = CICP.get((white_kind, primaries_kind))
     if cicp and curve != GAMMA:
         elements.append((("cicp",), b"cicp" + word(0) + bytes((cicp, CURVES[curve][1], 0, 1))))
@@ -244,18 +254,18 @@ def rgb(kinds, white, primaries, g, intent):
 
 def profile(fields):
     kind, white, primaries, curve, intent = (int(fields[at]) for at in (1, 2, 5, 12, 14))
-    used = kind in (1, 2)
-    if kind not in (1, 2, 3) or intent > 3 or used and (white > OWN or curve > GAMMA) or kind == 2 and primaries > OWN:
+    used = kind in (GRAY, RGB, ADAPTED_GRAY)
+    if not (used or kind == XYB) or intent > 3 or used and (white > OWN or curve > GAMMA) or kind == RGB and primaries > OWN:
         raise Refused(43)
     if used and curve in (PQ, HLG):
         raise Refused(1)
-    if kind == 3:
+    if kind == XYB:
         return xyb(intent)
     wx, wy = floats(fields[3:5] if white == OWN else WHITES[white].split())
     white_name = f"{decimals(wx)};{decimals(wy)}" if white == OWN else ("D65", "EER", "DCI")[white]
     (g,) = floats(fields[13:14])
-    if kind == 1:
-        return gray((white_name, wx, wy), curve, g, intent)
+    if kind != RGB:
+        return gray(kind, (white_name, wx, wy), curve, g, intent)
     xy = floats(fields[6:12] if primaries == OWN else PRIMARIES[primaries].split())
     pairs = (f"{decimals(x)},{decimals(y)}" for x, y in zip(xy[0::2], xy[1::2]))
     name = ";".join(pairs) if primaries == OWN else ("SRG", "202", "DCI")[primaries]

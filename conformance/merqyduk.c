@@ -1,5 +1,5 @@
 /* The conformance list's program over include/merqyduk.h: reads encodings, prints profiles. README.md here has the form of both. It also looks
- * after the bytes that a call must leave alone: all of the output on a refusal, those past the profile else. */
+ * after the bytes that a call must leave alone: all of the output on a refusal, those past the profile else, and on a refusal a lent count. */
 #include <inttypes.h>
 #include <stdio.h>
 #include <stdlib.h>
@@ -29,7 +29,8 @@ static int read_encoding(const char *line, struct encoding *e)
     return fields == 15 && line[used] == '\0' && e->room <= MOST_ROOM;
 }
 
-static uint32_t write_profile(const struct encoding *e, uint8_t *out)
+/* A call that lends no count leaves it alone as well. */
+static uint32_t write_profile(const struct encoding *e, uint8_t *out, uint32_t *rounded)
 {
     float f[9];
     memcpy(f, e->bits, sizeof f);
@@ -40,6 +41,8 @@ static uint32_t write_profile(const struct encoding *e, uint8_t *out)
         return merqyduk_write_rgb(e->white, f[0], f[1], e->primaries, f[2], f[3], f[4], f[5], f[6], f[7], e->curve, f[8], e->intent, out, e->room);
     case 3:
         return merqyduk_write_xyb(e->intent, out, e->room);
+    case 4:
+        return merqyduk_write_gray_adapted(e->white, f[0], f[1], e->curve, f[8], e->intent, 1, 0, 0, out, e->room, rounded);
     default:
         return 43;
     }
@@ -66,11 +69,14 @@ int main(void)
         }
         size_t end = e.room + GUARD;
         memset(out, UNTOUCHED, end);
-        uint32_t answer = write_profile(&e, out);
+        uint32_t rounded = UNTOUCHED;
+        uint32_t answer = write_profile(&e, out, &rounded);
         size_t written = answer >= 284 ? answer : 0;
         size_t changed = changed_from(out, written, end);
         if (written > e.room || changed != end) {
             printf("answered %" PRIu32 ", byte %zu of the output changed\n", answer, changed);
+        } else if (written == 0 && rounded != UNTOUCHED) {
+            printf("answered %" PRIu32 ", the count changed\n", answer);
         } else if (written == 0) {
             printf("refused %" PRIu32 "\n", answer);
         } else {

@@ -1,6 +1,6 @@
 #!/bin/sh
 # Tries this repository's library and example.py on the conformance list, and the Rust itself where differential/build.sh has built it. Then shows that
-# try.py notices mistakes: each of three programs that answer one thing wrong must be told so.
+# try.py notices mistakes: each of five programs that answer one thing wrong must be told so.
 #
 #   conformance/test.sh [OUT]
 set -eu
@@ -29,13 +29,15 @@ if [ -x "$judge" ]; then
     "$judge" conformance 1 | cmp - "$here/encodings.txt"
 fi
 
-# A wrong program: ours, with its output changed.
+# A wrong program: ours, with its output changed, or its input.
 wrong() {
     status=0
-    python3 "$here/try.py" sh -c "'$out/merqyduk' | $2" >"$out/wrong.log" || status=$?
+    python3 "$here/try.py" sh -c "${3:-cat} | '$out/merqyduk' | $2" >"$out/wrong.log" || status=$?
     [ "$status" -eq 1 ] || { echo "try.py did not notice: $1 (status $status)"; exit 1; }
     echo "noticed: $1: $(tail -n 1 "$out/wrong.log")"
 }
 wrong "7 answered as 5" "sed 's/^refused 7\$/refused 5/'"
 wrong "the last digit of one profile" "sed '1s/.\$/f/'"
-wrong "an answer left out" "sed '3600d'"
+wrong "an answer left out" "sed '3750d'"
+wrong "adapted gray as gray" cat "sed 's/^\([0-9]*\) 4 /\1 1 /'"
+wrong "4 of adapted gray as 3" "sed '3601,\$s/^refused 4\$/refused 3/'"

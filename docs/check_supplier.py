@@ -1,12 +1,12 @@
 #!/usr/bin/env python3
-"""Checks SUPPLIER.md: its constants, the right numbers of its tables, those of XYB, which constants are rounded, and the ids.
+"""Checks SUPPLIER.md: its constants, the right numbers of its tables, those of XYB and adapted gray, which constants are rounded, and the ids.
 
   docs/check_supplier.py [SRC]
 
 Each constant is worked out exactly from the decimal that the Rust has and rounded to its width, and held against the bits in the table; the bits
 must stand in the file of the definition. With SRC, the folder of the Rust's sources, each decimal must stand there too. The cases must be those of
-conformance/encodings.txt. Each right number of a case must be in the case's profile there, and the numbers of XYB in its profile. Each id
-of a profile must be the one in that profile there, and its MD5, and the other that of the profile with maker and model put in. The status is 1 if something differs.
+conformance/encodings.txt. Each right number of a case must be in the case's profile there, the numbers of XYB in its profile, and the tags of
+adapted gray in its own. Each id of a profile must be the one in that profile there, and its MD5, and the other that of the profile with maker and model put in. The status is 1 if something differs.
 """
 
 import hashlib
@@ -225,8 +225,14 @@ def check_counts():
             yield f"{kind}, {tag}: {matrix} of the constants are rounded"
         most, count = sums.get(kind, (0, 0))
         sums[kind] = most + int(numbers.split(" ")[0]), count + int(rounded if rounded.isdigit() else 0)
-    if sums["RGB"][0] != 26 or sums["gray"][0] != 8 or sums["XYB"] != (45, 30):
+    if sums["RGB"][0] != 26 or sums["gray"][0] != 8 or sums["adapted gray"] != (17, white) or sums["XYB"] != (45, 30):
         yield f"numbers of each kind, and those that are always rounded: {sums}"
+    # All nine of D65's chad are rounded, as those of XYB, which are the same; 1 / 0.5 is whole.
+    d65 = next(int(rounded) for kind, tag, _, _, rounded in rows(["kind", "tag", "numbers", "made from", "rounded"]) if (tag, rounded) == ("`chad`", "9"))
+    for encoding, numbers, rounded in rows(["encoding", "numbers", "rounded"]):
+        curve = encoding.removeprefix("adapted gray, D65, ")
+        if curve != encoding and [numbers, rounded] != ["13" if curve == "gamma 0.5" else "17", str(white + d65 + due.get(curve, 0))]:
+            yield f"{encoding}: {numbers} numbers, {rounded} rounded"
     print(f"{sum(most for most, _ in sums.values())} numbers that may be rounded")
 
 
@@ -245,7 +251,7 @@ def fields_of(encoding):
     """The named encoding of a table of ids as the fields of the list."""
     kind, *names = encoding.split(", ")
     number = lambda known: str(known.index(names.pop(0)))
-    fields = [str(("gray", "RGB", "XYB").index(kind) + 1)]
+    fields = [str(("gray", "RGB", "XYB", "adapted gray").index(kind) + 1)]
     fields += [number(("D65", "E", "DCI")) if kind != "XYB" else "0"] + 2 * ["00000000"]
     fields += [number(("SRGB", "BT2100", "P3")) if kind == "RGB" else "0"] + 6 * ["00000000"]
     fields += [number(("BT709", "Linear", "SRGB", "PQ", "DCI")) if kind != "XYB" else "0", "00000000"]
@@ -270,6 +276,26 @@ def profile_of(encoding, length, lines):
     return next((bytes.fromhex(line[len(asked):]) for line in lines if line.startswith(asked)), None)
 
 
+def check_adapted():
+    """Holds the tags of adapted gray against its profile in the list."""
+    lines = (TOP / "conformance" / "encodings.txt").read_text().split("\n")
+    profile = profile_of("adapted gray, D65, SRGB, Relative", 384, lines)
+    word = lambda at: int.from_bytes(profile[at:at + 4], "big", signed=True)
+    # Where the letters or numbers of an element begin, by its type.
+    start = {b"mluc": 28, b"XYZ ": 8, b"sf32": 8, b"para": 12}
+    found = []
+    for at in range(132, 132 + 12 * word(128), 12):
+        offset, size = word(at + 4), word(at + 8)
+        first, end = offset + start[profile[offset:offset + 4]], offset + size
+        text = profile[first:end].decode("utf-16-be") if profile[offset:offset + 4] == b"mluc" else ""
+        held = text or ", ".join(str(word(place)) for place in range(first, end, 4))
+        found.append([f"`{profile[at:at + 4].decode()}`", str(offset), str(size), held])
+    table = list(rows(["tag", "offset", "bytes", "holds"]))
+    if table != found:
+        yield f"adapted gray: {found}"
+    print(f"{len(table)} tags of adapted gray")
+
+
 def check_ids():
     """Holds the ids of profiles, with zeros for maker and model and with ACME and PLT1, against the profiles of the list."""
     lines = (TOP / "conformance" / "encodings.txt").read_text().split("\n")
@@ -289,7 +315,7 @@ def check_ids():
 def main():
     source = pathlib.Path(sys.argv[1]) if len(sys.argv) > 1 else None
     wrong = list(check_constants(source)) + list(check_encodings()) + list(check_cases()) + list(check_xyb()) + list(check_counts())
-    wrong += list(check_ids())
+    wrong += list(check_adapted()) + list(check_ids())
     for line in wrong:
         print(line)
     return 1 if wrong else 0
