@@ -10,10 +10,10 @@ use judge::inputs::{Random, encodings, filled};
 
 use crate::port::Codes;
 
-/// Adapted gray of the white, curve and intent of each encoding; XYB has no white.
-pub fn adapted(encodings: Vec<Encoding>) -> Vec<Encoding> {
+/// Adapted gray of the white, curve and intent of each encoding, up to `count`; XYB has no white.
+pub fn adapted(encodings: &[Encoding], count: usize) -> Vec<Encoding> {
     let all = encodings.iter().filter_map(Encoding::to_adapted_gray);
-    all.collect()
+    all.take(count).collect()
 }
 
 /// The cases, then random ones until there are `count`, none twice.

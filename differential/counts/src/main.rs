@@ -244,17 +244,17 @@ fn run(count: usize, seed: u64) -> usize {
         ),
         (
             "counts, adapted gray",
-            |random, count| inputs::adapted(encodings::compared(random, count)),
+            |random, count| inputs::adapted(&encodings::compared(random, count), count),
             Part::encoding,
         ),
         (
             "counts, adapted gray, whole numbers",
-            |random, count| inputs::adapted(inputs::whole(random, count)),
+            |random, count| inputs::adapted(&inputs::whole(random, count), count),
             Part::encoding,
         ),
         (
             "counts, adapted gray, no meaning",
-            |random, count| inputs::adapted(encodings::compared(random, count)),
+            |random, count| inputs::adapted(&encodings::compared(random, count), count),
             Part::without_meaning,
         ),
     ];
