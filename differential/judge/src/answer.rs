@@ -56,6 +56,12 @@ fn xyb_of_other_intent(encoding: &Encoding) -> Vec<u8> {
     file
 }
 
+const D65: White = White {
+    kind: 0,
+    wx: 0,
+    wy: 0,
+};
+
 /// The original's gray file of the curve and intent, under D65, with the text of the encoding, the `wtpt`
 /// of its RGB, a `chad` behind that, and the id that is then due.
 fn adapted_gray(encoding: &Encoding) -> Result<Vec<u8>, u32> {
@@ -79,12 +85,6 @@ fn adapted_gray(encoding: &Encoding) -> Result<Vec<u8>, u32> {
         .insert(3, Tag::new(b"chad", numbers(b"sf32", &chad)));
     Ok(sheet.bytes())
 }
-
-const D65: White = White {
-    kind: 0,
-    wx: 0,
-    wy: 0,
-};
 
 /// The nine numbers of `chad` of the encoding's white, or the refusal: 4 or 5.
 pub fn chad_numbers(encoding: &Encoding) -> Result<[i32; 9], u32> {
