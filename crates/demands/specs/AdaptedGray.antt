@@ -2,7 +2,7 @@
 -- an RGB profile of the same white; it is written, with enough output, exactly if none of 1, 4, 5 and 8 applies; 3, 6 and 7 do not occur; it is read back with
 -- its mark, which the number of tags tells; gray without the mark, and RGB and XYB, have the files that they had. (That one plan fits one file is in Demand3, the
 -- 384 bytes of gray D65 Relative SRGB in `sheets` of examples.) Assumes nothing.
-use Prim.Native.Nat.{ℕ, _<_}
+use Prim.Native.Nat.{ℕ, _≤_, _<_}
 use mathlib.Core.Path.{_≡_}
 use mathlib.Core.Logic.{_↔_, _⊎_}
 use mathlib.Core.Bool.{Bool, true, false, cond}
@@ -29,13 +29,14 @@ use Rattle.profile.specs.declared.Curve.{Curve}
 use Rattle.encoding_plan.specs.PlanOf.{chadNumbers, colorPlan}
 use Rattle.encoding_plan.specs.FixedFloats.{colorFloats}
 use Rattle.encoding_plan.specs.EncodingPlan.{encodingAs, encodingPlan, countedEncodingPlan}
-use Rattle.writer.specs.Writer.{answer, Creates}
+use Rattle.text.specs.Held.{HeldEncoding}
+use Rattle.writer.specs.Writer.{answer, maxWritten, Creates}
 use Rattle.writer.specs.declared.Profile.the-variants.{Written, Refused}
 use Rattle.writer_laws.specs.RefusalList.{Ok1, Ok4, Ok5, Ok8, Ok9}
 use Rattle.reader_spec.specs.Finder.{find}
 use Rattle.reading.specs.declared.Reading.{Reading}
 use Rattle.coded_writer.specs.CodedWriter.{coded, codedBy, WritesCounted, MeasuresCounted}
-use Rattle.demands.specs.Demand2.{Succeeds}
+use Rattle.demands.specs.Demand2.{Succeeds, enough-output}
 use Rattle.demands.specs.Demand3.{Reads}
 use Rattle.demands.specs.AdaptedFiles.{marked, HasMark}
 use Rattle.demands.specs.AdaptedGrayLaws as Laws
@@ -47,10 +48,14 @@ module _ (w : JxlWhitePoint) (t : JxlTransferFunction) (i : RenderingIntent) (ma
   pub its-plan : {q : Plan} → encodingPlan (marked w t i maker model) ≡ is q → HasMark w t i q
   its-plan h = Laws.its-plan w t i maker model h
 
-  -- ---- the writer, on an output of n bytes; `Ok9` is that the output is not shorter than the profile, for which 1,200 bytes are enough (Demand2, `enough-output`)
+  -- ---- the writer, on an output of n bytes; `Ok9` is that the output is not shorter than the profile
 
   pub succeeds-exactly-if : (n : ℕ) → Succeeds (marked w t i maker model) n ↔ ((Ok1 e × Ok4 true e × Ok5 true e × Ok8 e) × Ok9 true e n)
   succeeds-exactly-if n = Laws.succeeds-exactly-if w t i maker model n
+
+  -- so, with enough output: the floats of the encoding are binary32 values, as those of the code are
+  pub with-enough-output : HeldEncoding e → (n : ℕ) → maxWritten ≤ n → Succeeds (marked w t i maker model) n ↔ (Ok1 e × Ok4 true e × Ok5 true e × Ok8 e)
+  with-enough-output held n enough = (λ s. succeeds-exactly-if n .0 s .0, λ o. succeeds-exactly-if n .1 (o, enough-output true e held n enough))
 
   pub refused-by : (n k : ℕ) → answer (countedEncodingPlan (marked w t i maker model)) n ≡ Refused k → (k ≡ 1) ⊎ ((k ≡ 4) ⊎ ((k ≡ 5) ⊎ ((k ≡ 8) ⊎ (k ≡ 9))))
   refused-by n k h = Laws.refused-by w t i maker model n k h

@@ -3,9 +3,9 @@ use Prim.Native.Nat.{ℕ, _<_}
 use mathlib.Core.Path.{_≡_, refl, sym, ap, _∙_, subst}
 use mathlib.Core.Logic.{_↔_, _⊎_, inl, inr}
 use mathlib.Core.Bool.{Bool, true, false, cond}
-use mathlib.Core.List.{List, [], _∷_, _++_}
+use mathlib.Core.List.{List, [], _∷_}
 use native.Mathlib.Omega.{arith}
-use lib.ListN.{length, take}
+use lib.ListN.{take}
 use lib.IntN.{ℤ, pos}
 use Rattle.buffer.specs.All.{All, none, more}
 use Rattle.buffer.specs.Ascii.{ascii}
@@ -16,7 +16,6 @@ use Rattle.buffer.specs.First.{First}
 use Rattle.buffer.specs.FirstLaws.{first-fails, first-not-all}
 use Rattle.color_encoding.specs.Coordinates.{whiteXy}
 use Rattle.color_encoding.specs.declared.RenderingIntent.{RenderingIntent}
-use Rattle.color_encoding.specs.declared.WhiteXy.{WhiteXy}
 use Rattle.color_encoding.specs.declared.JxlWhitePoint.{JxlWhitePoint}
 use Rattle.color_encoding.specs.declared.JxlPrimaries.{JxlPrimaries}
 use Rattle.color_encoding.specs.declared.JxlTransferFunction.{JxlTransferFunction}
@@ -25,14 +24,14 @@ use Rattle.color_encoding.specs.declared.JxlColorEncoding.the-variants.{RgbColo
 use Rattle.text.specs.Description.{description}
 use Rattle.profile.specs.Signatures as Sig
 use Rattle.profile.specs.Plan.{Plan, GrayContent, GrayWhite, unadapted, adapted, Content, gray, rgb}
-use Rattle.profile.specs.Elements.{Element, tagCount}
+use Rattle.profile.specs.Elements.{tagCount}
 use Rattle.profile.specs.Numbers.{numbersFor}
 use Rattle.profile.specs.Shape.{isAdapted, shapeOf, slotsOf}
 use Rattle.profile.specs.TagTypes.{mluc, xyz, sf32, curve}
-use Rattle.profile.specs.Layout.{D50, tag, elementsFor, elements, slots, layout}
+use Rattle.profile.specs.Layout.{D50, tag, elementsFor, elements, slots}
 use Rattle.profile.specs.PlanLaws.{Nines, slots-shape}
 use Rattle.profile.specs.declared.Curve.{Curve}
-use Rattle.encoding_plan.specs.PlanOf.{chadNumbers, grayPlan, rgbPlan, colorPlan}
+use Rattle.encoding_plan.specs.PlanOf.{chadNumbers, colorPlan}
 use Rattle.encoding_plan.specs.FixedFloats.{colorFloats}
 use Rattle.encoding_plan.specs.EncodingPlan.{encodingAs, encodingPlan, countedEncodingPlan}
 use Rattle.encoding_plan.specs.EncodingPlanLaws.{from-color}

@@ -16,7 +16,7 @@ use Rattle.color_encoding.specs.declared.JxlColorEncoding.{JxlColorEncoding}
 use Rattle.color_encoding.specs.declared.JxlColorEncoding.the-variants.{RgbColorSpace, GrayscaleColorSpace, XYB}
 use Rattle.text.specs.Held.{HeldEncoding}
 use Rattle.profile.specs.Layout.{layout}
-use Rattle.encoding_plan.specs.PlanOf.{xybPlan, colorPlan, planOf}
+use Rattle.encoding_plan.specs.PlanOf.{xybPlan, planOf}
 use Rattle.encoding_plan.specs.FixedFloats.{fixedFloats, countedPlan}
 use Rattle.encoding_plan.specs.EncodingPlan.{encodingWith, countedEncodingPlan}
 use Rattle.encoding_plan.specs.declared.Encoding.{Encoding}
