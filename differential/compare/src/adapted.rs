@@ -173,7 +173,6 @@ impl AdaptedGray {
         };
         let case = Case::new(&mut self.random, adapted);
         let device = devices::any(&mut self.random);
-        self.met.add(case.due(device).written.answer);
         let found = self.mark_1(&case, device);
         self.mark_0(&case, device);
         self.other_mark(&case, device);
@@ -195,9 +194,10 @@ impl AdaptedGray {
         self.read_back(case, &found.written);
         self.with_device.add(&input, &case.due(device), &found);
         let zeros = Device::default();
-        let found = Answers::by_mark(case, 1, zeros);
+        let (due, found) = (case.due(zeros), Answers::by_mark(case, 1, zeros));
+        self.met.add(due.written.answer);
         self.read_back(case, &found.written);
-        self.marked.add(&input, &case.due(zeros), &found);
+        self.marked.add(&input, &due, &found);
         found.written
     }
 
