@@ -1,6 +1,8 @@
 // The chromatic adaptation of a white point to D50: api/color.rs from K_BRADFORD to `adapt_to_xyz_d50`, and the matrix of `chad`. All is f64,
 // from the widened coordinates on, until the matrix is narrowed.
 
+#![tactic(auto)]
+
 ghost use Rattle.std.specs.Prelude.{◌≡◌, ◌&&◌, not, ◌<◌};
 ghost use Rattle.floats.specs.Binary64.{◌⊘◌};
 ghost use Rattle.buffer.specs.Outputs.{Outputs};
@@ -27,7 +29,7 @@ const K_BRADFORD_INV: Matrix3x3 = [
 ];
 
 // The answer of an adaptation; the matrix stands in the caller's output.
-#[derive(Drop)]
+#[derive(Clone, Copy)]
 pub enum Adaptation {
     Adapted,
     InvalidWhitePoint,

@@ -1,10 +1,12 @@
 // Profiles in APP2 segments of a JPEG file: what the call that writes segments and the call that joins them answer, and the numbers that both know. What they
 // must answer is in specs/, with its theorems; `segments_writer` and `segments_joiner` have the calls.
 
+#![tactic(auto)]
+
 ghost use Rattle.std.specs.Prelude.{◌≡◌, min};
 
 // What either call answers: the length that it wrote, or the first number of the refusal list that applies.
-#[derive(Drop)]
+#[derive(Clone, Copy)]
 pub enum Output {
     Written(u32),
     Refused(u32),

@@ -1,6 +1,8 @@
 // Bytes of a slice: read one by one, compared, and put into a slice that the caller lends. The callers of the put functions have checked that
 // there is room; each answers the place after what it put.
 
+#![tactic(auto)]
+
 ghost use Rattle.std.specs.Prelude.{◌≡◌, ◌&&◌, ◌∷◌, [], ◌+◌, ◌≤◌, eqb, leb, length, get_or};
 ghost use Rattle.buffer.specs.Ascii.{is_ascii};
 ghost use Rattle.buffer.specs.Bytes.{zeros, same};

@@ -1,5 +1,8 @@
 // The writer and the dry call for an encoding that comes by codes, their answer as one number: the length, or the number of a refusal, 43 first, where a
 // code has no meaning. `host` has an entry for each kind over these.
+
+#![tactic(auto)]
+
 ghost use Rattle.std.specs.Prelude.{◌≡◌, false};
 ghost use Rattle.color_encoding.specs.Codes.{known_encoding};
 ghost use Rattle.writer.specs.Writer.{number, count_after};
@@ -93,7 +96,7 @@ pub fn length_counted(code: EncodingCode, capacity: usize, rounded: &mut u32) ->
 // ---- the same with the mark "adapted" as a number, 0 or 1, and with maker and model
 
 // An encoding that comes by codes, or that one of them has no meaning.
-#[derive(Drop)]
+#[derive(Clone, Copy)]
 pub enum MarkedCode {
     Known(Encoding),
     Unknown,

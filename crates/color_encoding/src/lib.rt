@@ -1,6 +1,9 @@
 // The color encodings that a profile is written for: the `Jxl...` enums of api/color.rs and `RenderingIntent` of
 // headers/color_encoding.rs, the CIE xy coordinates of each white point and set of primaries, and each enum from its job number.
 // (An encoding from the codes of its parts is in encoding_codes.)
+
+#![tactic(auto)]
+
 ghost use Rattle.std.specs.Prelude.{◌≡◌};
 ghost use Rattle.color_encoding.specs.Coordinates.{white_xy, primaries_xy};
 ghost use Rattle.color_encoding.specs.Intent.{intent_number, intent_name};
@@ -8,7 +11,7 @@ ghost use Rattle.color_encoding.specs.Codes.{intent_from, white_point_from, prim
 ghost use Rattle.color_encoding.specs.Codes.{known_intent, known_white_point, known_primaries, known_transfer_function};
 ghost use Rattle.color_encoding.specs.Codes.{white_point_number, primaries_number, transfer_function_number};
 
-#[derive(Drop)]
+#[derive(Clone, Copy)]
 pub enum RenderingIntent {
     Perceptual,
     Relative,
@@ -16,7 +19,7 @@ pub enum RenderingIntent {
     Absolute,
 }
 
-#[derive(Drop)]
+#[derive(Clone, Copy)]
 pub enum JxlWhitePoint {
     D65,
     E,
@@ -24,7 +27,7 @@ pub enum JxlWhitePoint {
     Chromaticity { wx: f32, wy: f32 },
 }
 
-#[derive(Drop)]
+#[derive(Clone, Copy)]
 pub enum JxlPrimaries {
     SRGB,
     BT2100,
@@ -39,7 +42,7 @@ pub enum JxlPrimaries {
     },
 }
 
-#[derive(Drop)]
+#[derive(Clone, Copy)]
 pub enum JxlTransferFunction {
     BT709,
     Linear,
@@ -50,7 +53,7 @@ pub enum JxlTransferFunction {
     Gamma(f32),
 }
 
-#[derive(Drop)]
+#[derive(Clone, Copy)]
 pub enum JxlColorEncoding {
     RgbColorSpace {
         white_point: JxlWhitePoint,
@@ -69,14 +72,14 @@ pub enum JxlColorEncoding {
 }
 
 // The xy coordinates of a white point.
-#[derive(Drop)]
+#[derive(Clone, Copy)]
 pub struct WhiteXy {
     pub wx: f32,
     pub wy: f32,
 }
 
 // The xy coordinates of the three primaries.
-#[derive(Drop)]
+#[derive(Clone, Copy)]
 pub struct PrimariesXy {
     pub rx: f32,
     pub ry: f32,
@@ -90,31 +93,31 @@ pub struct PrimariesXy {
 pub const UNKNOWN: u32 = 43;
 
 // What a number stands for.
-#[derive(Drop)]
+#[derive(Clone, Copy)]
 pub enum IntentCode {
     Known(RenderingIntent),
     Unknown,
 }
 
-#[derive(Drop)]
+#[derive(Clone, Copy)]
 pub enum WhitePointCode {
     Known(JxlWhitePoint),
     Unknown,
 }
 
-#[derive(Drop)]
+#[derive(Clone, Copy)]
 pub enum PrimariesCode {
     Known(JxlPrimaries),
     Unknown,
 }
 
-#[derive(Drop)]
+#[derive(Clone, Copy)]
 pub enum TransferFunctionCode {
     Known(JxlTransferFunction),
     Unknown,
 }
 
-#[derive(Drop)]
+#[derive(Clone, Copy)]
 pub enum EncodingCode {
     Known(JxlColorEncoding),
     Unknown,

@@ -1,6 +1,8 @@
 // From the CIE xy coordinates of a white point and of three primaries to the columns of a profile: `primaries_to_xyz`, `primaries_to_xyz_d50` and
 // `create_icc_rgb_matrix` of api/color.rs. All is f64, from the widened coordinates on, until the matrix is narrowed.
 
+#![tactic(auto)]
+
 ghost use Rattle.std.specs.Prelude.{◌≡◌};
 ghost use Rattle.buffer.specs.Checked.{is, then};
 ghost use Rattle.buffer.specs.Outputs.{Outputs};
@@ -14,7 +16,7 @@ use linalg::{Matrix3x3, Vector3};
 use white_point::{finite_xyz, in_range, white_xyz};
 
 // The answer of a conversion; the matrix stands in the caller's output.
-#[derive(Drop)]
+#[derive(Clone, Copy)]
 pub enum Conversion {
     Converted,
     InvalidWhitePoint,

@@ -1,5 +1,7 @@
 // The common names of RGB encodings, `get_color_encoding_description` of api/color.rs.
 
+#![tactic(auto)]
+
 ghost use Rattle.std.specs.Prelude.{◌≡◌, cond, ◌&&◌, eqb};
 ghost use Rattle.color_encoding.specs.Codes.{transfer_function_number};
 ghost use Rattle.color_encoding.specs.Intent.{intent_number};
@@ -8,7 +10,7 @@ ghost use Rattle.common_names.specs.Common.{Named, none};
 use color_encoding::{JxlPrimaries, JxlTransferFunction, JxlWhitePoint, RenderingIntent};
 
 // A name: the first `len` letters; zeros after it. A name of no letters is none.
-#[derive(Drop)]
+#[derive(Clone, Copy)]
 pub struct CommonName {
     pub letters: [u8; 10],
     pub len: usize,

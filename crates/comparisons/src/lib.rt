@@ -1,4 +1,7 @@
 // The parts of a file compared with those that are laid out for it: the header of a kind, the tag table of a shape, the elements and the id of a plan.
+
+#![tactic(auto)]
+
 ghost use Rattle.std.specs.Prelude.{◌≡◌, true, ◌+◌, ◌*◌, ◌≤◌, length, take, drop};
 ghost use Rattle.words.specs.Words.{be32};
 ghost use Rattle.buffer.specs.Buffer.{put};
@@ -66,7 +69,7 @@ pub fn table_is(file: &[u8], shape: Shape) -> bool
 }
 
 // Whether a file has the elements and the id of a plan.
-#[derive(Drop)]
+#[derive(Clone, Copy)]
 pub struct Comparison {
     pub elements: bool,
     pub id: bool,

@@ -1,6 +1,8 @@
 // Floats printed to seven decimals, as Rust's `{:.7}` prints them, straight into a slice that the caller lends.
 // Nothing is divided but by powers of two.
 
+#![tactic(auto)]
+
 ghost use Rattle.std.specs.Prelude.{◌≡◌, not, ◌++◌, ◌∷◌, ◌+◌, ◌*◌, ◌-◌, ◌^◌, ◌<◌, ◌≤◌, eqb, ltb, length, replicate};
 ghost use Rattle.std.specs.Float.{binary32};
 ghost use Rattle.std.specs.Float.Ieee.Nearest.{closest};
@@ -15,7 +17,7 @@ use digits::{put_eight, put_up_to_eight};
 use floats::rounding::nearest_shifted;
 
 // A whole number below 10^40 by five parts of eight decimal digits, p4 the highest.
-#[derive(Drop)]
+#[derive(Clone, Copy)]
 struct Parts {
     p4: u64,
     p3: u64,
@@ -25,21 +27,21 @@ struct Parts {
 }
 
 // A number of seven decimals: its whole part, and the decimals.
-#[derive(Drop)]
+#[derive(Clone, Copy)]
 struct Fixed {
     whole: u64,
     decimals: u64,
 }
 
 // A part and what goes over into the next.
-#[derive(Drop)]
+#[derive(Clone, Copy)]
 struct Carried {
     part: u64,
     carry: u64,
 }
 
 // A float's text: the first `len` bytes; zeros after it.
-#[derive(Drop)]
+#[derive(Clone, Copy)]
 pub struct Decimals {
     pub bytes: [u8; 48],
     pub len: usize,

@@ -1,6 +1,8 @@
 // A float read from a text: an optional minus, one or two whole digits without a needless leading zero, a point, seven digits. Its value is worked
 // out by whole numbers: the decimal is q / 10^7.
 
+#![tactic(auto)]
+
 ghost use Rattle.std.specs.Prelude.{◌≡◌, Bool, cond, ◌+◌, ◌*◌, ◌^◌, ◌<◌, ◌≤◌, drop};
 ghost use Rattle.std.specs.Float.{binary32};
 ghost use Rattle.std.specs.Float.Ieee.{of_bits, round};
@@ -29,7 +31,7 @@ fn nearest_quotient(n: u64) -> u64
 }
 
 // A number n = q * 2^j.
-#[derive(Drop)]
+#[derive(Clone, Copy)]
 struct Scaled {
     n: u64,
     j: u64,
@@ -80,14 +82,14 @@ fn nearest_f32(negative: bool, q: u64) -> f32
 // ---- numbers in a text
 
 // A number times 10^7, and the place after it.
-#[derive(Drop)]
+#[derive(Clone, Copy)]
 enum DecimalAt {
     Found { q: u64, next: usize },
     Nothing,
 }
 
 // A float, and the place after it.
-#[derive(Drop)]
+#[derive(Clone, Copy)]
 pub enum FloatAt {
     Found { x: f32, next: usize },
     Nothing,

@@ -1,5 +1,7 @@
 // The length of an encoding's description, worked out without its letters. A profile's length follows from it.
 
+#![tactic(auto)]
+
 ghost use Rattle.std.specs.Prelude.{◌≡◌, length};
 ghost use Rattle.decimal.specs.Seven.{seven_decimals};
 ghost use Rattle.text.specs.Description.{comma, pair, white_name, primaries_name, transfer_name, rgb_text, rgb_description, gray_text, description};

@@ -1,5 +1,7 @@
 // The description of an encoding, read back into an encoding.
 
+#![tactic(auto)]
+
 ghost use Rattle.std.specs.Prelude.{◌≡◌, List, ℕ, length, drop};
 ghost use Rattle.scanner.specs.Scan.{found, or_else, after};
 ghost use Rattle.names_parser.specs.ParseNames.{white};
@@ -22,14 +24,14 @@ pub const NOT_IN_LANGUAGE: u32 = 51;
 pub const GAMMA_IS_ZERO: u32 = 52;
 
 // The encoding that a text describes, or the refusal.
-#[derive(Drop)]
+#[derive(Clone, Copy)]
 pub enum Parsed {
     Encoding(JxlColorEncoding),
     Refused(u32),
 }
 
 // An encoding, and the place after the text that describes it.
-#[derive(Drop)]
+#[derive(Clone, Copy)]
 enum EncodingAt {
     Found {
         encoding: JxlColorEncoding,
@@ -39,7 +41,7 @@ enum EncodingAt {
 }
 
 // An intent and a curve, and the place after them.
-#[derive(Drop)]
+#[derive(Clone, Copy)]
 enum EndAt {
     Found {
         rendering_intent: RenderingIntent,

@@ -1,6 +1,8 @@
 // The decimal digits of a whole number, written into a slice that the caller lends.
 // They come by multiplications, shifts, comparisons and subtractions: nothing is divided but by powers of two.
 
+#![tactic(auto)]
+
 ghost use Rattle.std.specs.Prelude.{◌≡◌, ◌+◌, ◌/◌, ◌^◌, ◌<◌, ◌≤◌, length};
 ghost use Rattle.buffer.specs.Puts.{PutsText};
 ghost use Rattle.digits.specs.Digits.{digits, last_digits};

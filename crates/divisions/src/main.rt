@@ -4,6 +4,9 @@
 // - a division or a remainder whose right operand is not an integer literal that is a power of two,
 // - a call of something that is in none of the sources: it may divide,
 // - what cannot be read.
+
+#![tactic(auto)]
+
 ghost use Rattle.std.specs.Prelude.{◌≤◌};
 
 use buffer::{byte_at, same_bytes};
@@ -47,7 +50,7 @@ fn is_letter(b: u8) -> bool {
 }
 
 // What takes several bytes; `stops` says where it ends. A statement is one of a single line, a segment a part of a path.
-#[derive(Drop)]
+#[derive(Clone, Copy)]
 enum Run {
     Line,
     Statement,
@@ -173,7 +176,7 @@ fn mark_length(first: u8, second: u8) -> usize {
 }
 
 // The place of a token. It is empty at the end of the source and where none can be read.
-#[derive(Drop)]
+#[derive(Clone, Copy)]
 struct Token {
     start: usize,
     end: usize,
@@ -367,7 +370,7 @@ fn is_method(s: &[u8], dot: Token) -> bool {
 // ---- the search
 
 // What a token adds to the counts, and the place where the search goes on.
-#[derive(Drop)]
+#[derive(Clone, Copy)]
 struct Found {
     by_powers: u64,
     faults: u64,
@@ -495,7 +498,7 @@ fn print(text: &[u8]) {
 }
 
 // The start of a line, and its number from 1.
-#[derive(Drop)]
+#[derive(Clone, Copy)]
 struct Line {
     start: usize,
     number: u64,

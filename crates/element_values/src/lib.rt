@@ -1,5 +1,8 @@
 // The values that tag data elements hold (ICC.1:2022, section 10): their sizes and padding, the parameters of the named curves and the
 // bytes of `cicp`.
+
+#![tactic(auto)]
+
 ghost use Rattle.std.specs.Prelude.{◌≡◌, ◌≤◌};
 ghost use Rattle.profile.specs.Elements as Elements;
 ghost use Rattle.profile.specs.Plan.{max_letters};

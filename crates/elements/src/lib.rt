@@ -1,5 +1,8 @@
 // The tag data elements (ICC.1:2022, section 10), each written at a place of a lent slice with its padding. The callers have checked that there
 // is room; each function answers the place after what it put.
+
+#![tactic(auto)]
+
 ghost use Rattle.std.specs.Prelude.{◌∷◌, [], ◌+◌, ◌*◌, ◌≤◌, length};
 ghost use Rattle.words.specs.Words.{be32, twos_complement32};
 ghost use Rattle.buffer.specs.Ascii.{ascii};

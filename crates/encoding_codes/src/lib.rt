@@ -1,5 +1,7 @@
 // The color encoding that the codes or the numbers of its parts give together, or that one of them has no meaning.
 
+#![tactic(auto)]
+
 ghost use Rattle.std.specs.Prelude.{◌≡◌};
 ghost use Rattle.color_encoding.specs.Codes.{white_point_from, primaries_from, transfer_function_from, intent_from};
 ghost use Rattle.color_encoding.specs.Codes.{known_intent, known_white_point, known_primaries, known_transfer_function, known_encoding, gray_from, rgb_from, xyb_from};

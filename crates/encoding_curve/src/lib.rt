@@ -1,4 +1,7 @@
 // The curve of an encoding, and its `cicp` primaries value.
+
+#![tactic(auto)]
+
 ghost use Rattle.std.specs.Prelude.{◌≡◌};
 ghost use Rattle.numbers.specs.Rounded.{rounded_in, counted};
 ghost use Rattle.profile.specs.FixedConstants.{parameter_floats};
@@ -9,13 +12,13 @@ use numbers::S15Fixed16;
 use profile::{Cicp, Curve, CurveName};
 
 // A transfer function that a profile can have: a named curve, or a gamma g.
-#[derive(Drop)]
+#[derive(Clone, Copy)]
 pub enum SupportedCurve {
     Named(CurveName),
     Gamma(f32),
 }
 
-#[derive(Drop)]
+#[derive(Clone, Copy)]
 pub enum Support {
     Curve(SupportedCurve),
     // PQ and HLG.
@@ -23,7 +26,7 @@ pub enum Support {
 }
 
 // A curve and how many of its numbers were rounded, or that a gamma's reciprocal does not fit.
-#[derive(Drop)]
+#[derive(Clone, Copy)]
 pub enum CurveAnswer {
     Curve { curve: Curve, rounded: u8 },
     OutOfRange,

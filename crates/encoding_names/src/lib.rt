@@ -1,6 +1,8 @@
 // The names of the parts of an encoding in its description: the `Display` impls of the white point, the primaries and the transfer
 // function of api/color.rs. A named variant has three letters, and one with numbers of its own is written by them.
 
+#![tactic(auto)]
+
 ghost use Rattle.std.specs.Prelude.{◌≡◌, ◌∷◌, [], ◌++◌, ◌+◌, ◌≤◌, ◌<◌, length};
 ghost use Rattle.color_encoding.specs.Codes.{white_point_number, primaries_number, transfer_function_number};
 ghost use Rattle.decimal.specs.Seven.{seven_decimals};

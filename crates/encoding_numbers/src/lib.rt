@@ -1,4 +1,7 @@
 // The fixed numbers of an encoding's white and primaries.
+
+#![tactic(auto)]
+
 ghost use Rattle.std.specs.Prelude.{◌≡◌, ◌<◌};
 ghost use Rattle.buffer.specs.Checked.{each};
 ghost use Rattle.numbers.specs.Fixed.{fixed_or};
@@ -12,7 +15,7 @@ use numbers::S15Fixed16;
 use white_point::WhiteXyz;
 
 // X and Z of a gray white and how many numbers of its `wtpt` were rounded, or their refusal, which is 0 where there is none.
-#[derive(Drop)]
+#[derive(Clone, Copy)]
 pub struct GrayNumbers {
     pub refusal: u32,
     pub x: i32,
@@ -21,7 +24,7 @@ pub struct GrayNumbers {
 }
 
 // The numbers of `chad` or of the columns and how many of them were rounded, or their refusal, which is 0 where there is none.
-#[derive(Drop)]
+#[derive(Clone, Copy)]
 pub struct NineNumbers {
     pub refusal: u32,
     pub values: [i32; 9],

@@ -1,4 +1,7 @@
 // The plan of an encoding, or its refusal: of its color encoding, with or without the mark "adapted", maker and model being zero.
+
+#![tactic(auto)]
+
 ghost use Rattle.std.specs.Prelude.{◌≡◌, Bool};
 ghost use Rattle.encoding_plan.specs.EncodingPlan.{plain_encoding};
 ghost use Rattle.encoding_plan.specs.PlanOf.{gray_white};
@@ -14,7 +17,7 @@ use profile::Numbers;
 
 // An encoding: the color encoding, the device's manufacturer and model for the header of its profile, four bytes each, the first the most
 // significant, and the mark: whether the white of gray is adapted to D50. Of RGB and XYB, whose white always is, the mark says nothing.
-#[derive(Drop)]
+#[derive(Clone, Copy)]
 pub struct Encoding {
     pub color: JxlColorEncoding,
     pub maker: u32,
@@ -42,7 +45,7 @@ const XYB_ROUNDED: u32 = 28;
 
 // A plan but for its text and how many of its fixed numbers were rounded, or its refusal, which is 0 where there is none; a refused plan and
 // its count mean nothing.
-#[derive(Drop)]
+#[derive(Clone, Copy)]
 pub struct EncodingPlan {
     pub refusal: u32,
     pub plan: Numbers,
@@ -61,7 +64,7 @@ fn refused(number: u32) -> EncodingPlan
 }
 
 // The white of a gray plan, X and Z or, adapted, `chad`, and how many of its fixed numbers were rounded; or its refusal, which is 0 where there is none.
-#[derive(Drop)]
+#[derive(Clone, Copy)]
 pub struct WhiteNumbers {
     pub refusal: u32,
     pub x: i32,

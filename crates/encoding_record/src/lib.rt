@@ -1,6 +1,8 @@
 // An encoding as the bytes of a lent record of C: the number of its section in a job, and then the bytes of an RGB entry, what the kind does not use
 // zero. The callers of the put functions have checked that there is room; each function answers the place after what it put.
 
+#![tactic(auto)]
+
 ghost use Rattle.std.specs.Prelude.{◌+◌, ◌≤◌, ◌<◌, ◌∷◌, [], ◌++◌, length};
 ghost use Rattle.buffer.specs.Puts.{Puts};
 ghost use Rattle.color_encoding.specs.Intent.{intent_number};

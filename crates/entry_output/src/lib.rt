@@ -1,5 +1,7 @@
 // What comes first in an output of a job, and what each entry adds: a line of the listing, or a profile.
 
+#![tactic(auto)]
+
 ghost use Rattle.std.specs.Prelude.{◌≡◌, ◌+◌, ◌≤◌, length, take};
 ghost use Rattle.buffer.specs.Puts.{PutsText};
 ghost use Rattle.encoding_plan.specs.PlanOf.{plan_of};
@@ -16,14 +18,14 @@ use line_text::{put_first, put_place, put_worded};
 use writer::{MAX_WRITTEN, Profile};
 
 // The two outputs of a job.
-#[derive(Drop)]
+#[derive(Clone, Copy)]
 pub enum Stream {
     Listing,
     Profiles,
 }
 
 // A line of text: the first len bytes; zeros after it. No line of a listing is longer than 17 bytes.
-#[derive(Drop)]
+#[derive(Clone, Copy)]
 pub struct Line {
     pub bytes: [u8; 24],
     pub len: usize,

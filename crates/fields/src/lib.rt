@@ -1,4 +1,7 @@
 // The fields of a file's header, and the shape that they and the lines of its tag table tell.
+
+#![tactic(auto)]
+
 ghost use Rattle.std.specs.Prelude.{◌≡◌, true, ◌&&◌, ◌+◌, ◌≤◌, eqb, length, take, drop};
 ghost use Rattle.buffer.specs.Bytes.{same};
 ghost use Rattle.profile.specs.Elements.{header_size, count_size};

@@ -5,7 +5,7 @@ ghost use Rattle.std.specs.Float.Ieee.Nearest.{closest};
 ghost use Rattle.floats.specs.Rounding.{halves_up};
 
 // n / 2^d: the whole part, twice the rest, and 2^d.
-#[derive(Drop)]
+#[derive(Clone, Copy)]
 struct Quotient {
     whole: u64,
     twice_rest: u64,

@@ -1,10 +1,13 @@
 // The profile header (ICC.1:2022, 7.2): first with the intent and the id left zero, as MD5 wants them, and then these two.
+
+#![tactic(auto)]
+
 ghost use Rattle.std.specs.Prelude.{◌≡◌, ◌∷◌, [], ◌+◌, ◌≤◌, length, take};
 ghost use Rattle.words.specs.Words.{be16, be32};
 ghost use Rattle.buffer.specs.Buffer.{put};
 ghost use Rattle.buffer.specs.Bytes.{zeros};
 ghost use Rattle.buffer.specs.Puts.{Puts};
-ghost use Rattle.md5.specs.Md5.{md5};
+ghost use Rattle.md5_digest.specs.Md5.{md5};
 ghost use Rattle.profile.specs.Signatures as Sig;
 ghost use Rattle.profile.specs.TagTypes.{join, s15_fixed_16s};
 ghost use Rattle.profile.specs.Elements.{header_size};
@@ -24,7 +27,7 @@ pub const INTENT: usize = 64;
 pub const ID: usize = 84;
 
 // The class of a profile and its data color space.
-#[derive(Drop)]
+#[derive(Clone, Copy)]
 struct Signatures {
     class: [u8; 4],
     space: [u8; 4],
@@ -117,7 +120,7 @@ pub fn put_intent_and_id(out: &mut [u8], size: usize, intent: u32) -> usize
     requires { (id_at + id_size ≤ size) × (size ≤ length out.old) }
     ensures { Puts (put out.old intent_at (be32 intent)) id_at id_size (md5 (take size out.old)) result out.new }
 {
-    let id = md5::compute_md5(&out[..size]);
+    let id = md5_digest::compute_md5(&out[..size]);
     words::put_u32_be(out, INTENT, intent);
     buffer::put_bytes(out, ID, &id)
 }

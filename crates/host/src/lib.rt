@@ -1,6 +1,9 @@
 // The writer, the job, the reader, the finder, the parser of descriptions and the two calls on APP2 segments for C and C++: include/merqyduk.h declares
 // these entries. An encoding comes as numbers, a job, a file, a text and segments as bytes, and the output is lent. A call that writes answers the length of
 // what it wrote (284 or more) or a number below 100, and then the output is unchanged; one that reads answers 0 or a number, and then the lent record is unchanged.
+
+#![tactic(auto)]
+
 ghost use Rattle.std.specs.Prelude.{length, false};
 ghost use Rattle.color_encoding.specs.Codes.{white_point_from, primaries_from, transfer_function_from, intent_from};
 ghost use Rattle.color_encoding.specs.Codes.{gray_from, rgb_from, xyb_from};

@@ -1,4 +1,7 @@
 // The f32 matrix that a profile holds: narrowed from f64, and its entries in file order.
+
+#![tactic(auto)]
+
 ghost use Rattle.std.specs.Prelude.{◌≡◌, ◌<◌};
 ghost use Rattle.floats.specs.Narrow.{narrow};
 ghost use Rattle.linalg.specs.Linalg.{three, component, entry, column, rows, columns};

@@ -1,6 +1,8 @@
 // The job of 01: color encodings in three sections, gray, RGB and XYB, each after a one-byte count. The entries of a job are numbered from 0 on
 // over all sections. A refused job has no entries.
 
+#![tactic(auto)]
+
 ghost use Rattle.std.specs.Prelude.{◌≡◌, ◌+◌, ◌*◌, ◌≤◌, ◌<◌, length};
 ghost use Rattle.buffer.specs.Checked.{is};
 ghost use Rattle.color_encoding.specs.Codes.{known_encoding};
@@ -13,7 +15,7 @@ use color_encoding::{EncodingCode, JxlColorEncoding};
 use job_entry::{gray_encoding, rgb_encoding, xyb_encoding};
 
 // An entry of a job: the number of its section (1 gray, 2 RGB, 3 XYB), its place there from 1 on, and what it means.
-#[derive(Drop)]
+#[derive(Clone, Copy)]
 pub struct JobEntry {
     pub section: u32,
     pub place: u32,
@@ -21,14 +23,14 @@ pub struct JobEntry {
 }
 
 // How many entries a job has, or why it is refused: 41, 42 or 43.
-#[derive(Drop)]
+#[derive(Clone, Copy)]
 pub enum JobAnswer {
     Entries(u32),
     Refused(u32),
 }
 
 // An entry of a job; none, where the job has fewer; or why the job is refused.
-#[derive(Drop)]
+#[derive(Clone, Copy)]
 pub enum EntryAnswer {
     Is(JobEntry),
     Absent,
@@ -36,14 +38,14 @@ pub enum EntryAnswer {
 }
 
 // How many entries a section has, where they are all there.
-#[derive(Drop)]
+#[derive(Clone, Copy)]
 enum Span {
     Whole(usize),
     Early,
 }
 
 // How many entries each section has, or 41 or 42.
-#[derive(Drop)]
+#[derive(Clone, Copy)]
 enum Counts {
     Whole { gray: usize, rgb: usize, xyb: usize },
     Refused(u32),

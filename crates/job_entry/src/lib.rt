@@ -1,5 +1,7 @@
 // An entry of the job of 01: the encoding that its bytes mean.
 
+#![tactic(auto)]
+
 ghost use Rattle.std.specs.Prelude.{◌≡◌, ◌≤◌};
 ghost use Rattle.color_encoding.specs.Codes.{known_intent, known_white_point, known_primaries, known_transfer_function, known_encoding};
 ghost use Rattle.job_entry.specs.Entry.{byte_at, float_at, white_at, primaries_at, curve_at, intent_at, gray_encoding, rgb_encoding, xyb_encoding};

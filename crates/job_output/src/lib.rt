@@ -1,6 +1,8 @@
 // What comes out of a job: its listing, its profiles one after another, and the profile of one entry.
 // A call that fills a lent output first finds out how long the bytes are; where the output is shorter, it changes nothing.
 
+#![tactic(auto)]
+
 ghost use Rattle.std.specs.Prelude.{◌≡◌, ◌+◌, ◌*◌, ◌≤◌, length};
 ghost use Rattle.buffer.specs.Puts.{PutsText};
 ghost use Rattle.profile.specs.TagTypes.{join};
@@ -23,14 +25,14 @@ pub const MOST_LISTING: usize = 13 + job::MOST_ENTRIES * 16;
 pub const MOST_PROFILES: usize = job::MOST_ENTRIES * writer::MAX_WRITTEN;
 
 // How many bytes were put to the front of a lent output; or 9, where it is too short for them.
-#[derive(Drop)]
+#[derive(Clone, Copy)]
 pub enum Output {
     Written(usize),
     Refused(u32),
 }
 
 // The length of an entry's profile; none, where the job has no such entry; or the refusal of the job or of the entry.
-#[derive(Drop)]
+#[derive(Clone, Copy)]
 pub enum JobProfile {
     Written(u32),
     Absent,

@@ -2,6 +2,8 @@
 // refused and how many entries it has, the second gives their lines. Each turn takes the piece from the place on where the walk stands, and puts what
 // is to be written to the front of an output; what is known between two turns goes by value.
 
+#![tactic(auto)]
+
 ghost use mathlib.Core.Path.{◌≡◌};
 ghost use Prim.Native.Nat.{◌+◌, ◌≤◌};
 ghost use lib.ListN.{length};
@@ -16,21 +18,21 @@ use job::{EntryAnswer, JobAnswer};
 use job_steps::Walk;
 
 // Which pass is at hand; Over, behind the last.
-#[derive(Drop)]
+#[derive(Clone, Copy)]
 pub enum Pass {
     First,
     Second,
     Over,
 }
 
-#[derive(Drop)]
+#[derive(Clone, Copy)]
 pub struct Progress {
     pub pass: Pass,
     pub walk: Walk,
 }
 
 // The progress after a turn, and how many bytes it put to the front of the output.
-#[derive(Drop)]
+#[derive(Clone, Copy)]
 pub struct Turned {
     pub progress: Progress,
     pub len: usize,

@@ -1,6 +1,8 @@
 // A job with two-byte counts (02, order 10), read item by item: an item is the count of a section, or an entry. What is known between two items is a
 // small state that goes by value, so that a job of any length is read with room for one item.
 
+#![tactic(auto)]
+
 ghost use mathlib.Core.Path.{◌≡◌};
 ghost use mathlib.Core.Bool.{◌||◌};
 ghost use Prim.Native.Nat.{◌+◌, ◌*◌, ◌≤◌};
@@ -11,7 +13,7 @@ ghost use Rattle.job_steps.specs.Steps.{count_of, counted, total, size_by, item_
 use job::{BYTES_LEFT, ENDS_EARLY, EntryAnswer, GRAY_BYTES, JobAnswer, RGB_BYTES, XYB_BYTES};
 
 // The section that a walk over a job is in; or the end, behind the last.
-#[derive(Drop)]
+#[derive(Clone, Copy)]
 pub enum Stage {
     Gray,
     Rgb,
@@ -20,7 +22,7 @@ pub enum Stage {
 }
 
 // How many entries each section has, as far as its count was read.
-#[derive(Drop)]
+#[derive(Clone, Copy)]
 pub struct SectionCounts {
     pub gray: u16,
     pub rgb: u16,
@@ -29,7 +31,7 @@ pub struct SectionCounts {
 
 // A walk stands before an item: the count of its section (place 0), or the entry at a place, the first being 1. It knows the counts before that, and
 // whether an entry before that has no meaning.
-#[derive(Drop)]
+#[derive(Clone, Copy)]
 pub struct Walk {
     pub stage: Stage,
     pub place: u16,
@@ -38,7 +40,7 @@ pub struct Walk {
 }
 
 // The walk behind an item, and the entry that it is; Absent, where it is a count.
-#[derive(Drop)]
+#[derive(Clone, Copy)]
 pub struct Stepped {
     pub walk: Walk,
     pub entry: EntryAnswer,

@@ -14,8 +14,8 @@ use Rattle.buffer.specs.BufferLaws.{length-put, take_put, put_put, put_back, put
 use Rattle.buffer.specs.Bytes.{zeros}
 use Rattle.buffer.specs.Puts.{Puts}
 use Rattle.buffer.specs.PutsLaws.{joined}
-use Rattle.md5.specs.Md5.{md5}
-use Rattle.md5.specs.Md5Laws.{length-md5}
+use Rattle.md5_digest.specs.Md5.{md5}
+use Rattle.md5_digest.specs.Md5Laws.{length-md5}
 use Rattle.profile.specs.Elements.{Slot, tag_count, table, start, body, body_size, file, file_length}
 use Rattle.profile.specs.ElementsLaws.{length-file}
 use Rattle.profile.specs.Plan.{Plan, with_mark, kind, max_letters}

@@ -1,4 +1,7 @@
 // The layout of a plan into a lent slice: header, tag table, elements and id, as `maybe_create_profile` of api/color.rs writes them.
+
+#![tactic(auto)]
+
 mod kinds;
 
 ghost use Rattle.std.specs.Prelude.{◌≡◌, ◌≤◌};

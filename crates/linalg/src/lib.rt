@@ -1,5 +1,7 @@
 // 3 by 3 matrices and 3-vectors of f64 by value, and their products: util/linalg.rs. (The inverse is in matrix_inverse.)
 
+#![tactic(auto)]
+
 ghost use Rattle.std.specs.Prelude.{◌≡◌, ◌<◌};
 ghost use Rattle.floats.specs.Binary64.{◌⊗◌};
 ghost use Rattle.linalg.specs.Linalg.{three, component, entry, column, dot, applied, product};

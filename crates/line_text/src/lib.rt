@@ -1,5 +1,7 @@
 // The words and numbers of a listing's lines, put into a lent slice without their newline.
 
+#![tactic(auto)]
+
 ghost use Rattle.std.specs.Prelude.{◌++◌, ◌+◌, ◌^◌, ◌≤◌, ◌<◌, length};
 ghost use Rattle.buffer.specs.Puts.{PutsText};
 ghost use Rattle.digits.specs.Digits.{digits};

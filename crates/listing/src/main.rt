@@ -1,4 +1,7 @@
 // Reads a job on standard input and writes its listing.
+
+#![tactic(auto)]
+
 use job_output::{MOST_LISTING, Output};
 use libc::{STDIN_FILENO, STDOUT_FILENO};
 

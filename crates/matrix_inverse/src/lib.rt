@@ -1,5 +1,7 @@
 // The inverse of a 3 by 3 matrix of f64 by its cofactors: util/linalg.rs.
 
+#![tactic(auto)]
+
 ghost use Rattle.std.specs.Prelude.{◌≡◌, ◌<◌};
 ghost use Rattle.floats.specs.Binary64.{◌⊗◌};
 ghost use Rattle.linalg.specs.Linalg.{three, entry};

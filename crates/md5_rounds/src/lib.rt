@@ -1,10 +1,13 @@
 // The four rounds of MD5, as RFC 1321 defines them. The sections named below are the RFC's.
+
+#![tactic(auto)]
+
 ghost use Rattle.std.specs.Prelude.{◌≡◌, ◌-◌, ◌<◌, ◌≤◌, slice_index};
 ghost use Rattle.md5_rounds.specs.Rounds as Rounds;
 ghost use Rattle.md5_rounds.specs.Rounds.{◌⊞◌, ◌<<<◌, sine_parts, operate, round1, round2, round3, round4};
 
 // The four words A, B, C, D of the buffer (3.3).
-#[derive(Drop)]
+#[derive(Clone, Copy)]
 pub struct State {
     pub a: u32,
     pub b: u32,

@@ -29,6 +29,7 @@ module _ {A : Type 0} (name : A → List ℕ) (text : List ℕ) (at : ℕ) where
 
   -- the value of the number k stands at the place
   name_found : (vs : List A) → ThreeLetters name vs → {k : ℕ} {v : A} → Numbered v vs k → name_number (map name vs) l ≡ k → any_of name vs l ≡ found v (drop (at + 3) text)
+  name_found [] _ {k = k} {v = v} n e = elim n [ ]
   name_found (v ∷ vs) (t, ts) here e = go (starts_with (name v) l) e
     where
       go : (b : Bool) → cond b 0 (suc (name_number (map name vs) l)) ≡ 0 → or_else (cond b (found v (drop (length (name v)) l)) nothing) (any_of name vs l) ≡ found v (drop (at + 3) text)

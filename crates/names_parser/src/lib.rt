@@ -1,5 +1,7 @@
 // The parts of an encoding read from a text, by the names that `encoding_names` gives them: three letters, or numbers.
 
+#![tactic(auto)]
+
 ghost use Rattle.std.specs.Prelude.{◌≡◌, ◌∷◌, [], drop};
 ghost use Rattle.buffer.specs.Ascii.{ascii};
 ghost use Rattle.encoding_names.specs.Names.{semicolon};
@@ -14,7 +16,7 @@ use scanner::{name_at, past};
 
 // ---- what was found, and the place after it
 
-#[derive(Drop)]
+#[derive(Clone, Copy)]
 pub enum IntentAt {
     Found {
         rendering_intent: RenderingIntent,
@@ -23,13 +25,13 @@ pub enum IntentAt {
     Nothing,
 }
 
-#[derive(Drop)]
+#[derive(Clone, Copy)]
 enum PairAt {
     Found { x: f32, y: f32, next: usize },
     Nothing,
 }
 
-#[derive(Drop)]
+#[derive(Clone, Copy)]
 pub enum WhiteAt {
     Found {
         white_point: JxlWhitePoint,
@@ -38,7 +40,7 @@ pub enum WhiteAt {
     Nothing,
 }
 
-#[derive(Drop)]
+#[derive(Clone, Copy)]
 pub enum PrimariesAt {
     Found {
         primaries: JxlPrimaries,
@@ -47,7 +49,7 @@ pub enum PrimariesAt {
     Nothing,
 }
 
-#[derive(Drop)]
+#[derive(Clone, Copy)]
 pub enum TransferAt {
     Found {
         transfer_function: JxlTransferFunction,

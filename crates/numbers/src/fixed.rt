@@ -13,7 +13,7 @@ use floats::rounding::halves_up_shifted;
 pub const LARGEST: i32 = 2147483264;
 
 // A fixed number, and whether it is exact: value * 65536 is whole.
-#[derive(Drop)]
+#[derive(Clone, Copy)]
 pub enum S15Fixed16 {
     Number { number: i32, whole: bool },
     OutOfRange,

@@ -1,5 +1,7 @@
 // Numbers as an ICC profile holds them: the bits of signed numbers and of floats, and s15_fixed16 numbers. (Their bytes are in words.)
 
+#![tactic(auto)]
+
 pub mod bits;
 pub mod fixed;
 

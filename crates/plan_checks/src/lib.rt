@@ -1,4 +1,7 @@
 // The checks of a plan that look at no file: which intents, shapes, numbers, letters and `cicp` values a plan has.
+
+#![tactic(auto)]
+
 ghost use Rattle.std.specs.Prelude.{◌≡◌, true, ◌&&◌};
 ghost use Rattle.profile.specs.Shape.{GoodShape};
 ghost use Rattle.reader_spec.specs.Decide as Decide;

@@ -1,4 +1,7 @@
 // The numbers and the text of the one plan that a file can have, each from the element that the file's own table names.
+
+#![tactic(auto)]
+
 ghost use Rattle.std.specs.Prelude.{◌≡◌, ◌∷◌, [], ◌+◌, ◌*◌, ◌≤◌, length, take, drop};
 ghost use Rattle.buffer.specs.Buffer.{put};
 ghost use Rattle.buffer.specs.Puts.{PutsText};
@@ -106,7 +109,7 @@ fn chad_in(file: &[u8]) -> [i32; 9]
 }
 
 // The three numbers of an `XYZ ` element.
-#[derive(Drop)]
+#[derive(Clone, Copy)]
 struct Xyz {
     x: i32,
     y: i32,

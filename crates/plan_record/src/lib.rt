@@ -1,5 +1,8 @@
 // The plan by value as the bytes of a C struct: numbers of 32 bits, the least significant byte first, and then the letters. The callers have checked
 // that there is room; each function answers the place after what it put.
+
+#![tactic(auto)]
+
 ghost use Rattle.std.specs.Prelude.{map, ◌+◌, ◌*◌, ◌≤◌, length, take};
 ghost use Rattle.buffer.specs.Puts.{Puts};
 ghost use Rattle.words.specs.Words.{twos_complement32};

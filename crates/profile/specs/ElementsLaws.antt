@@ -35,7 +35,7 @@ Fours = All (λ (s : Elements.Slot). All Four s.signatures)
 entries_four : (at : ℕ) (ss : List Elements.Slot) → Fours ss → All (λ (e : Elements.Entry). Four e.signature) (Elements.entries at ss)
 unfolding Elements.entries
 entries_four at [] none = none
-entries_four at (s ∷ ss) (more f fs) = All-append (All-map (Elements.entry at s.size) (λ x h. h) f) (entries_four _ ss fs)
+entries_four at (s ∷ ss) (more f fs) = All-append (All-map (Elements.entry at s.size) (λ x h. h) f) (entries_four (at + Elements.padded_size s.size) ss fs)
 
 pub length-entries : (at : ℕ) (ss : List Elements.Slot) → length (Elements.entries at ss) ≡ Elements.tag_count ss
 unfolding Elements.entries Elements.tag_count

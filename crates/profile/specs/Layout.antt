@@ -5,7 +5,7 @@ use Rattle.words.specs.Words.{be16, be32}
 use Rattle.buffer.specs.Bytes.{zeros}
 use Rattle.buffer.specs.Ascii.{ascii}
 use Rattle.buffer.specs.Checked.{value_or}
-use Rattle.md5.specs.Md5.{md5}
+use Rattle.md5_digest.specs.Md5.{md5}
 use Rattle.color_encoding.specs.Intent.{intent_name}
 use Rattle.color_encoding.specs.Codes.{intent_from}
 use Rattle.color_encoding.specs.declared.RenderingIntent.TheVariants.{Perceptual}

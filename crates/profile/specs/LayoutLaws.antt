@@ -10,8 +10,8 @@ use Rattle.buffer.specs.Bytes.{zeros}
 use Rattle.words.specs.WordsLaws.{length-be16, length-be32, be32_zero}
 use Rattle.buffer.specs.Buffer.{put}
 use Rattle.buffer.specs.BufferLaws.{put_over}
-use Rattle.md5.specs.Md5.{md5}
-use Rattle.md5.specs.Md5Laws.{length-md5}
+use Rattle.md5_digest.specs.Md5.{md5}
+use Rattle.md5_digest.specs.Md5Laws.{length-md5}
 use Rattle.profile.specs.Elements.{header_size, file, file_length}
 use Rattle.profile.specs.ElementsLaws.{Fours, length-file}
 use Rattle.profile.specs.Plan.{Plan, with_device, with_mark, kind, Good}

@@ -1,5 +1,8 @@
 // The profiles: a plan and its layout are definitions (specs/). Here are a plan by value and its shape. The crate `elements` writes the tag data
 // elements, and `layout` lays out whole plans.
+
+#![tactic(auto)]
+
 ghost use Rattle.std.specs.Prelude.{ℕ, ◌≡◌, List, length};
 ghost use Rattle.profile.specs.Layout as Layouts;
 ghost use Rattle.profile.specs.Numbers as Plans;
@@ -26,7 +29,7 @@ pub const SRGB_GAMMA: i32 = 157286;
 pub const DCI_GAMMA: i32 = 170394;
 
 // The three kinds of profile.
-#[derive(Drop)]
+#[derive(Clone, Copy)]
 pub enum Kind {
     Gray,
     Rgb,
@@ -35,7 +38,7 @@ pub enum Kind {
 
 // The shape of a plan, which its tag table and its length show: the letters of its text, whether its curve is a gamma, whether it has
 // `cicp` and whether it is gray with its white adapted to D50.
-#[derive(Drop)]
+#[derive(Clone, Copy)]
 pub struct Shape {
     pub kind: Kind,
     pub letters: usize,
@@ -45,7 +48,7 @@ pub struct Shape {
 }
 
 // A named curve: its five numbers are those of function type 3.
-#[derive(Drop)]
+#[derive(Clone, Copy)]
 pub enum CurveName {
     BT709,
     Linear,
@@ -54,14 +57,14 @@ pub enum CurveName {
 }
 
 // A curve of a profile: a named one, or function type 0 with the fixed number of 1/g.
-#[derive(Drop)]
+#[derive(Clone, Copy)]
 pub enum Curve {
     Named(CurveName),
     Gamma(i32),
 }
 
 // The `cicp` tag: absent, or with this value of ColourPrimaries.
-#[derive(Drop)]
+#[derive(Clone, Copy)]
 pub enum Cicp {
     Absent,
     Primaries(u8),
@@ -69,7 +72,7 @@ pub enum Cicp {
 
 // A plan but for its text, which is lent beside it. Where a kind has no such number the field is zero, or the first curve. Maker and model are four
 // bytes each, the first the most significant. Gray has X and Z of its white or, where this is adapted to D50, `chad`.
-#[derive(Drop)]
+#[derive(Clone, Copy)]
 pub struct Numbers {
     pub kind: Kind,
     pub intent: u32,

@@ -1,4 +1,7 @@
 // Reads a job on standard input and writes its accepted profiles, one after another; of a refused job nothing.
+
+#![tactic(auto)]
+
 ghost use Rattle.std.specs.Prelude.{◌≡◌, length};
 
 use job_output::{MOST_PROFILES, Output};

@@ -1,4 +1,7 @@
 // The reader: the one plan that lays out to a file, id included, or the first refusal.
+
+#![tactic(auto)]
+
 pub mod finder;
 
 ghost use Rattle.std.specs.Prelude.{◌≡◌};

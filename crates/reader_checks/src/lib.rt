@@ -1,4 +1,7 @@
 // The refusal list (01): its numbers, and the first that applies to the elements, the numbers and the id of a file; and what its id says of the plan.
+
+#![tactic(auto)]
+
 ghost use Rattle.std.specs.Prelude.{◌≡◌};
 ghost use Rattle.reader_spec.specs.RefusalList.{refusal_number, mark_number};
 ghost use Rattle.reader_spec.specs.Steps.{Candidate};
@@ -28,7 +31,7 @@ const WRONG_ID: u32 = 28;
 pub const SHORTEST: usize = HEADER_SIZE + 4;
 
 // The first refusal, 0 where there is none, and the mark of the plan, 1 if its id is not computed.
-#[derive(Drop)]
+#[derive(Clone, Copy)]
 pub struct PlanAnswer {
     pub refusal: u32,
     pub id_not_computed: u32,

@@ -1,11 +1,14 @@
 // The reader's answer by value: a refusal number, or the plan in numbers.
+
+#![tactic(auto)]
+
 ghost use Rattle.std.specs.Prelude.{◌≡◌};
 ghost use Rattle.reading.specs.Reading as Answers;
 
 use profile::{Cicp, Curve, CurveName, Kind, MAX_LETTERS, Numbers};
 
 // What the reader answers: a refusal number, or 0 and the plan in numbers. The plan is all zero where the file is refused.
-#[derive(Drop)]
+#[derive(Clone, Copy)]
 pub struct Reading {
     pub refusal: u32,
     pub kind: u32,

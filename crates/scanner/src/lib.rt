@@ -1,5 +1,7 @@
 // Texts taken apart from their front: whether letters stand at a place, and which of some names does. At the end of a text nothing is found.
 
+#![tactic(auto)]
+
 ghost use Rattle.std.specs.Prelude.{◌≡◌, ◌∷◌, [], drop};
 ghost use Rattle.scanner.specs.Scan.{starts_with};
 ghost use Rattle.scanner.specs.Places.{behind, threes, name_number};

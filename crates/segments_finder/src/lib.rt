@@ -1,4 +1,7 @@
 // The segments of a buffer, tested in one pass.
+
+#![tactic(auto)]
+
 ghost use Rattle.std.specs.Prelude.{◌≡◌, ◌≤◌, length, replicate};
 ghost use Rattle.app2.specs.Joining.{begins};
 ghost use Rattle.app2.specs.App2.{max_segments};

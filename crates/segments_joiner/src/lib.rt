@@ -1,4 +1,7 @@
 // APP2 segments joined to the file that was put into them.
+
+#![tactic(auto)]
+
 ghost use Rattle.std.specs.Prelude.{◌≤◌, length};
 ghost use Rattle.app2.specs.App2.{joined_file, Gives};
 ghost use Rattle.segments_finder.specs.Found.{Found};

@@ -1,4 +1,7 @@
 // A file that the reader accepts, put into APP2 segments.
+
+#![tactic(auto)]
+
 ghost use Rattle.std.specs.Prelude.{◌≡◌, ◌+◌, ◌-◌, ◌*◌, ◌/◌, ◌^◌, ◌≤◌, ◌<◌, length};
 ghost use Rattle.buffer.specs.Puts.{Puts, PutsText};
 ghost use Rattle.app2.specs.Segments.{front, segment_bytes, bytes, cut, segments};
@@ -44,7 +47,7 @@ fn put_segments(out: &mut [u8], file: &[u8], size: usize, count: usize) -> usize
 }
 
 // Bytes that are left, and how many segments hold the others.
-#[derive(Drop)]
+#[derive(Clone, Copy)]
 struct Held {
     left: usize,
     count: usize,

@@ -1,4 +1,7 @@
 // The lines of a file's tag table. A read past the end of the file gives zeros.
+
+#![tactic(auto)]
+
 ghost use Rattle.std.specs.Prelude.{◌≡◌, ◌≤◌, length};
 ghost use Rattle.profile.specs.Elements.{line_start};
 ghost use Rattle.reader_spec.specs.Table as Table;
@@ -31,7 +34,7 @@ pub fn elements_start(file: &[u8]) -> usize
 }
 
 // Where an element starts, and how many bytes it has.
-#[derive(Drop)]
+#[derive(Clone, Copy)]
 pub struct Line {
     pub offset: u32,
     pub size: u32,

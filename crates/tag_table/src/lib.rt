@@ -1,4 +1,7 @@
 // The tag table (ICC.1:2022, 7.3): the number of tags, and a signature, an offset and a size for each.
+
+#![tactic(auto)]
+
 ghost use Rattle.std.specs.Prelude.{◌≡◌, ◌+◌, ◌*◌, ◌≤◌};
 ghost use Rattle.std.proofs.Math.ListN as ListN;
 ghost use Rattle.buffer.specs.Puts.{Puts};
@@ -24,7 +27,7 @@ pub const ENTRY_SIZE: usize = 12;
 pub const MAX_LENGTH: usize = 1240;
 
 // Where the element of a tag starts, and where it ends with its padding.
-#[derive(Drop)]
+#[derive(Clone, Copy)]
 struct Place {
     offset: u32,
     end: u32,

@@ -1,4 +1,7 @@
 // The tags of each kind of profile, in the order of its table. What differs by kind is said here.
+
+#![tactic(auto)]
+
 ghost use Rattle.std.specs.Prelude.{◌≡◌, ◌≤◌};
 ghost use Rattle.tags.specs.Tags as Listing;
 ghost use Rattle.profile.specs.Plan.{max_letters};
@@ -25,7 +28,7 @@ const A2B0_SIZE: u32 = 292;
 const B2A0_SIZE: u32 = 80;
 
 // A tag and the size of its element. A shared one names the element of the tag before it.
-#[derive(Drop)]
+#[derive(Clone, Copy)]
 pub struct Tag {
     pub signature: [u8; 4],
     pub size: u32,
@@ -33,7 +36,7 @@ pub struct Tag {
 }
 
 // The first `count` are tags; the others are unused.
-#[derive(Drop)]
+#[derive(Clone, Copy)]
 pub struct Tags {
     pub count: usize,
     pub tags: [Tag; MAX_TAGS],

@@ -1,5 +1,7 @@
 // The text that describes an encoding, `get_color_encoding_description` of api/color.rs: written from the front of a lent slice on.
 
+#![tactic(auto)]
+
 ghost use Rattle.std.specs.Prelude.{◌≡◌, ◌++◌, ◌+◌, ◌≤◌, length};
 ghost use Rattle.color_encoding.specs.Intent.{intent_name};
 ghost use Rattle.buffer.specs.Puts.{Puts};
@@ -20,7 +22,7 @@ use encoding_names::{put_primaries, put_transfer, put_white};
 pub const MAX_BYTES: usize = 449;
 
 // A description: the first `len` bytes; zeros after it.
-#[derive(Drop)]
+#[derive(Clone, Copy)]
 pub struct Text {
     pub bytes: [u8; MAX_BYTES],
     pub len: usize,

@@ -1,4 +1,7 @@
 // `validate_icc_matrix` of api/color.rs: whether the matrices of an encoding fit the fixed numbers of a profile.
+
+#![tactic(auto)]
+
 ghost use Rattle.std.specs.Prelude.{◌≡◌};
 ghost use Rattle.validate.specs.Validate.{is_s15_fixed_16, all_s15_fixed_16, white_in_range, matrix_in_range, matrices_in_range, validation, validate_icc_matrix};
 
@@ -8,7 +11,7 @@ use colorimetry::Conversion;
 use white_point::WhiteXyz;
 
 // What `validate_icc_matrix` answers.
-#[derive(Drop)]
+#[derive(Clone, Copy)]
 pub enum Validation {
     Valid,
     InvalidWhitePointY,

@@ -1,6 +1,9 @@
 // Replays the fixed list, the file `list` of data/: a record a line, which holds an input and the answer that is due. Prints for each type of
 // record how many were tried and how many the crates answer so, byte for byte; how often each refusal was such an answer; and the first line that
 // differs. The answers are the original Rust's, RFC 1321's and 01's; differential/README.md says what a record holds and how the list is made.
+
+#![tactic(auto)]
+
 ghost use Rattle.std.specs.Prelude.{◌≡◌, ◌≤◌, length};
 
 use adaptation::Adaptation;
@@ -62,7 +65,7 @@ fn put_two(out: &mut [u8], at: usize, first: u32, second: u32) -> usize {
 }
 
 fn put_digest(out: &mut [u8], at: usize, bytes: &[u8]) -> usize {
-    let digest = md5::compute_md5(bytes);
+    let digest = md5_digest::compute_md5(bytes);
     put(out, at, &digest)
 }
 
@@ -405,7 +408,7 @@ fn digit(b: u8) -> u8 {
 }
 
 // A record: how many bytes its input and its answer have, and where the next line begins; 0 where the line is malformed or has no end.
-#[derive(Drop)]
+#[derive(Clone, Copy)]
 struct Record {
     input: usize,
     answer: usize,

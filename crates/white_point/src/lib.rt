@@ -1,6 +1,8 @@
 // The XYZ of a white point from its CIE xy coordinates: of an RGB white in f64, as `adapt_to_xyz_d50` and `primaries_to_xyz` of api/color.rs
 // begin, and of a gray white in f32, `cie_xyz_from_white_cie_xy`.
 
+#![tactic(auto)]
+
 ghost use Rattle.std.specs.Prelude.{◌≡◌};
 ghost use Rattle.color_encoding.specs.Range.{in_range};
 ghost use Rattle.white_point.specs.White.{white_z_of, white_xyz, finite, finite_xyz};
@@ -10,7 +12,7 @@ use color_encoding::WhiteXy;
 use linalg::Vector3;
 
 // The XYZ of a gray white, or that y is too near to zero.
-#[derive(Drop)]
+#[derive(Clone, Copy)]
 pub enum WhiteXyz {
     Xyz { x: f32, y: f32, z: f32 },
     InvalidWhitePointY,

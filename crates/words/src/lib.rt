@@ -1,5 +1,7 @@
 // Words in a byte slice, big-endian unless named otherwise. The put functions are for callers that know that the word fits; they answer the place after it.
 
+#![tactic(auto)]
+
 ghost use Rattle.std.specs.Prelude.{◌≡◌, cond, ◌+◌, ◌*◌, ◌%◌, ◌≤◌, leb, length, drop};
 ghost use Rattle.buffer.specs.Buffer.{put};
 ghost use Rattle.buffer.specs.Puts.{Puts};

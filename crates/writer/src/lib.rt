@@ -1,4 +1,7 @@
 // The writer of profiles: `maybe_create_profile` of api/color.rs, and what it would answer, without an output.
+
+#![tactic(auto)]
+
 ghost use Rattle.std.specs.Prelude.{◌≡◌, length, ◌≤◌};
 ghost use Rattle.buffer.specs.Buffer.{put};
 ghost use Rattle.profile.specs.Layout.{layout};
@@ -21,7 +24,7 @@ pub const MAX_WRITTEN: usize = 1200;
 
 // What the writer answers: the length of the profile that it wrote and how many of its fixed numbers were rounded, or the first number of the
 // refusal list that applies.
-#[derive(Drop)]
+#[derive(Clone, Copy)]
 pub enum Profile {
     Written { length: u32, rounded: u32 },
     Refused(u32),

@@ -1,5 +1,8 @@
 // The numbers of an XYB profile, stored. The Rust works them out in floats each time: specs/XybNumbers.antt has its steps, and each
 // table is proved to be what they give. Fixed numbers are ICC.1's s15Fixed16Number.
+
+#![tactic(auto)]
+
 ghost use Rattle.std.specs.Prelude.{◌≡◌};
 ghost use Rattle.xyb_constants.specs.XybNumbers.{clut, m_curves, matrix, chad};
 

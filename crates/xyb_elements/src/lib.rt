@@ -1,4 +1,7 @@
 // The `A2B0` and `B2A0` elements of the XYB profile (ICC.1:2022, 10.12 and 10.13).
+
+#![tactic(auto)]
+
 ghost use Rattle.std.specs.Prelude.{◌+◌, ◌*◌, ◌≤◌, length};
 ghost use Rattle.buffer.specs.Puts.{Puts};
 ghost use Rattle.profile.specs.Elements.{padded};

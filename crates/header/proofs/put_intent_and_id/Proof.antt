@@ -8,7 +8,7 @@ use native.Mathlib.Omega.{arith}
 use lib.ListN.{length}
 use lib.Seq.{length-take-le}
 use Rattle.buffer.specs.Buffer.{put}
-use Rattle.md5.specs.Md5Laws.{length-md5}
+use Rattle.md5_digest.specs.Md5Laws.{length-md5}
 use Rattle.header.proofs.put_intent_and_id.Statement.{statement}
 use Rattle.header.proofs.put_intent_and_id.Tie as tie
 

@@ -1,0 +1,35 @@
+-- One law of `Narrowing` for each answer: `tiny`, `small`, `large` and `over`.
+-- Assumes nothing.
+use mathlib.Core.Path.{sym, ap, subst}
+use Prim.Native.Nat.{ℕ, ◌+◌, ◌-◌, ◌*◌, ◌^◌, ◌<◌, ◌≤◌}
+use native.Mathlib.Omega.{arith}
+use Rattle.floats.proofs.Narrowing.{Narrows, tiny, low-le, small, large, over}
+use borrow.Author.Rules.{rules}
+use Rattle.floats.proofs.narrow.magnitude.Goals as goal
+
+pub returns-then-field-lt872 : goal.returns-then-field-lt872
+returns-then-field-lt872 c = (search rules, tiny c.args.field c.args.digits c.if-field-lt872.true c.requires.1)
+
+pub returns-then-field-lt897 : goal.returns-then-field-lt897
+returns-then-field-lt897 c =
+    let e = c.nearest_shifted.ensures in
+    let le = low-le c.args.field c.args.digits c.if-field-lt897.true c.requires.1 in (
+      omega arith,
+      subst (Narrows c.args.field c.args.digits) (sym e)
+          (small c.args.field c.args.digits c.if-field-lt872.false c.if-field-lt897.true c.requires.1),
+    )
+
+pub returns-then-m-lt2139095040 : goal.returns-then-m-lt2139095040
+returns-then-m-lt2139095040 c =
+    let e = ap (λ (x : ℕ). (c.args.field - 897) * 2 ^ 23 + x) c.nearest_shifted-2.ensures in (
+      search rules,
+      subst (Narrows c.args.field c.args.digits) (sym e)
+          (large c.args.field c.args.digits c.if-field-lt897.false c.requires.0 c.requires.1 (subst (λ (x : ℕ). x < 0x7f80_0000) e c.if-m-lt2139095040.true)),
+    )
+
+pub returns-else-m-lt2139095040 : goal.returns-else-m-lt2139095040
+returns-else-m-lt2139095040 c =
+    let e = ap (λ (x : ℕ). (c.args.field - 897) * 2 ^ 23 + x) c.nearest_shifted-2.ensures in (
+      search rules,
+      over c.args.field c.args.digits c.if-field-lt897.false c.requires.0 c.requires.1 (subst (λ (x : ℕ). 0x7f80_0000 ≤ x) e c.if-m-lt2139095040.false),
+    )
