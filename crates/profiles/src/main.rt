@@ -5,7 +5,7 @@
 ghost use Rattle.std.specs.Prelude.{◌≡◌, length};
 
 use job_output::{MOST_PROFILES, Output};
-use libc::{STDIN_FILENO, STDOUT_FILENO};
+use std::io;
 
 // One byte more than the longest job has: of a longer input no more need be read, since it is refused 42 whatever it holds
 // (crates/job/specs/Longest.antt).
@@ -18,11 +18,12 @@ fn room() -> [u8; MOST_PROFILES]
     [0; MOST_PROFILES]
 }
 
-fn main() {
+fn main(rt: HostRuntime) -> io::Result<()> {
     let mut job = [0u8; MOST_READ];
     let mut bytes = room();
-    let n = io::read_full(STDIN_FILENO, &mut job);
-    if let Output::Written(len) = job_output::profiles(&job[..n], &mut bytes) {
-        io::write_all(STDOUT_FILENO, &bytes[..len]);
+    let n = streams::read_full(&mut rt.stdin(), &mut job);
+    match job_output::profiles(&job[..n], &mut bytes) {
+        Output::Written(len) => rt.write_all(&bytes[..len]),
+        Output::Refused(_) => Ok(()),
     }
 }

@@ -1,0 +1,24 @@
+// Reading an input as a whole, piece by piece, into a lent buffer.
+
+#![tactic(auto)]
+
+ghost use Rattle.std.specs.Prelude.{◌≤◌, take, length};
+ghost use Rattle.std.specs.Io.KnownBytes.{Consumes};
+
+use std::io::Read;
+
+// Reads until the buffer is full, the input ends or a read fails. Answers how many bytes it put at the buffer's start; where it is known what the input
+// holds, these are its first ones, and they are gone from it.
+pub fn read_full<R: Read>(input: &mut R, buf: &mut [u8]) -> usize
+    ensures bound { result ≤ length buf.new }
+    ensures bytes { Consumes (R.remaining input.old) (R.remaining input.new) (take result buf.new) }
+{
+    let mut done = 0;
+    while done < buf.len() {
+        match input.read(&mut buf[done..]) {
+            Ok(n) if n != 0 => done += n,
+            _ => break,
+        }
+    }
+    done
+}
