@@ -10,8 +10,10 @@
 ghost use Rattle.std.specs.Prelude.{◌≤◌};
 
 use buffer::{byte_at, same_bytes};
-use libc::STDOUT_FILENO;
 use scanner::letters_at;
+use std::env::{Env, FillError};
+use std::fs::{File, Files};
+use std::io;
 use std::num::{wrapping_add_u64, wrapping_add_usize, wrapping_sub_usize};
 
 // A part of a slice; one that is not there is empty.
@@ -49,7 +51,8 @@ fn is_letter(b: u8) -> bool {
     }
 }
 
-// What takes several bytes; `stops` says where it ends. A statement is one of a single line, a segment a part of a path.
+// What takes several bytes; `stops` says where it ends. A statement is one of a single line, a segment a part of a path. A contract stands within corner
+// brackets, a bare one within the braces of its clause alone.
 #[derive(Clone, Copy)]
 enum Run {
     Line,
@@ -58,6 +61,7 @@ enum Run {
     Word,
     Text,
     Contract,
+    Bare,
 }
 
 // Whether a string stops here: at its end, or where it could go on in more than one way.
@@ -80,6 +84,11 @@ fn contract_stops(s: &[u8], at: usize) -> bool {
     }
 }
 
+// The same for a bare contract. One that holds `//` is refused too, behind which the brace that ends it could be within a comment.
+fn bare_stops(s: &[u8], at: usize) -> bool {
+    contract_stops(s, at) || letters_at(s, at, b"//")
+}
+
 fn stops(run: Run, s: &[u8], at: usize) -> bool {
     let b = byte_at(s, at);
     match run {
@@ -89,6 +98,7 @@ fn stops(run: Run, s: &[u8], at: usize) -> bool {
         Run::Word => !(is_letter(b) || is_digit(b)),
         Run::Text => text_stops(s, at),
         Run::Contract => contract_stops(s, at),
+        Run::Bare => bare_stops(s, at),
     }
 }
 
@@ -311,16 +321,35 @@ fn is_of_module(source: &[u8], module: &[u8]) -> bool {
     same_bytes(name, part(module, wrapping_add_usize(n, 2), module.len()))
 }
 
-fn argument_is_of(i: usize, module: &[u8]) -> bool {
-    let mut name = io::buffer();
-    let n = os::arg(i, &mut name);
+// The most bytes that an argument is read of; a longer one names no source.
+const MOST_NAME: usize = 4096;
+
+// How many arguments there are, with the program's name before them.
+fn argument_count<R: Env>(rt: &R) -> usize {
+    let mut name = [0u8; MOST_NAME];
+    for i in 0..usize::MAX {
+        if let Err(FillError::NotPresent) = rt.arg(i, &mut name) {
+            return i;
+        }
+    }
+    usize::MAX
+}
+
+// Puts an argument into a buffer, and answers how many bytes it has; 0 for one that does not fit.
+fn argument<R: Env>(rt: &R, i: usize, name: &mut [u8]) -> usize {
+    rt.arg(i, name).unwrap_or(0)
+}
+
+fn argument_is_of<R: Env>(rt: &R, i: usize, module: &[u8]) -> bool {
+    let mut name = [0u8; MOST_NAME];
+    let n = argument(rt, i, &mut name);
     is_of_module(part(&name, 0, n), module)
 }
 
 // Whether the module's source is among the arguments.
-fn is_given(module: &[u8]) -> bool {
-    for i in 1..os::arg_count() {
-        if argument_is_of(i, module) {
+fn is_given<R: Env>(rt: &R, module: &[u8]) -> bool {
+    for i in 1..argument_count(rt) {
+        if argument_is_of(rt, i, module) {
             return true;
         }
     }
@@ -340,7 +369,7 @@ fn name_behind(s: &[u8], at: usize) -> Token {
 
 // Whether a path leads into the sources or to the one function beside them that is called on the way. A type needs no search of its own: that of
 // another module is named in a `use`, whose path is searched.
-fn is_known(s: &[u8], first: Token, second: Token, third: Token) -> bool {
+fn is_known<R: Env>(rt: &R, s: &[u8], first: Token, second: Token, third: Token) -> bool {
     match byte_at(s, first.start) {
         b'A'..=b'Z' => return true,
         _ => {}
@@ -354,7 +383,7 @@ fn is_known(s: &[u8], first: Token, second: Token, third: Token) -> bool {
         first
     };
     second.start < second.end
-        && is_given(part(s, first.start, module.end))
+        && is_given(rt, part(s, first.start, module.end))
         && !is(s, token_from(s, third.end), b"::")
 }
 
@@ -418,12 +447,25 @@ fn past_lambda(s: &[u8], t: Token) -> Token {
     }
 }
 
-// A clause is { ⌜ … ⌝ } or { λ r. ⌜ … ⌝ }, with a name before it or none. So all of antt's text stands within corner brackets.
+// The } behind antt's text, which is within corner brackets, with λ, a name and a point before them or none, or, where no λ begins it, bare. Of another
+// text, another token.
+fn contract_close(s: &[u8], first: Token) -> Token {
+    let contract = past_lambda(s, first);
+    if letters_at(s, contract.start, &OPEN) {
+        return token_from(s, contract.end);
+    }
+    if is(s, first, &LAMBDA) {
+        return first;
+    }
+    token_at(s, run_end(Run::Bare, s, first.start))
+}
+
+// A clause is { ⌜ … ⌝ }, { λ r. ⌜ … ⌝ } or { … }, with a name before it or none. So all of antt's text stands within corner brackets, or within braces and
+// holds neither them nor a brace, a quote or what could begin a comment.
 fn clause(s: &[u8], word: Token) -> Found {
     let open = past_name(s, token_from(s, word.end));
-    let contract = past_lambda(s, token_from(s, open.end));
-    let close = token_from(s, contract.end);
-    if is(s, open, b"{") && letters_at(s, contract.start, &OPEN) && is(s, close, b"}") {
+    let close = contract_close(s, token_from(s, open.end));
+    if is(s, open, b"{") && is(s, close, b"}") {
         fault_if(false, close.end)
     } else {
         unread(s, word)
@@ -446,16 +488,16 @@ fn used(s: &[u8], word: Token) -> Found {
     fault_if(!is(s, token_from(s, first.end), b"::"), word.end)
 }
 
-fn path(s: &[u8], first: Token) -> Found {
+fn path<R: Env>(rt: &R, s: &[u8], first: Token) -> Found {
     if !is(s, token_from(s, first.end), b"::") {
         return fault_if(false, first.end);
     }
     let second = name_behind(s, first.end);
     let third = name_behind(s, second.end);
-    fault_if(!is_known(s, first, second, third), third.end)
+    fault_if(!is_known(rt, s, first, second, third), third.end)
 }
 
-fn named(s: &[u8], word: Token) -> Found {
+fn named<R: Env>(rt: &R, s: &[u8], word: Token) -> Found {
     if is(s, word, b"requires") || is(s, word, b"ensures") {
         clause(s, word)
     } else if is(s, word, b"ghost") {
@@ -465,11 +507,11 @@ fn named(s: &[u8], word: Token) -> Found {
     } else if is(s, word, b"extern") || is(s, word, b"asm") {
         fault_if(true, word.end)
     } else {
-        path(s, word)
+        path(rt, s, word)
     }
 }
 
-fn judged(s: &[u8], t: Token) -> Found {
+fn judged<R: Env>(rt: &R, s: &[u8], t: Token) -> Found {
     if s.len() <= t.start {
         return fault_if(false, s.len());
     }
@@ -483,7 +525,7 @@ fn judged(s: &[u8], t: Token) -> Found {
         128.. => unread(s, t),
         _ => {
             if is_name(s, t) {
-                named(s, t)
+                named(rt, s, t)
             } else {
                 fault_if(false, t.end)
             }
@@ -492,10 +534,6 @@ fn judged(s: &[u8], t: Token) -> Found {
 }
 
 // ---- what is printed
-
-fn print(text: &[u8]) {
-    io::write_all(STDOUT_FILENO, text);
-}
 
 // The start of a line, and its number from 1.
 #[derive(Clone, Copy)]
@@ -520,60 +558,72 @@ fn line_of(s: &[u8], at: usize) -> Line {
     line
 }
 
-fn print_fault(name: &[u8], s: &[u8], at: usize) {
+fn print_fault<R: Print>(rt: &R, name: &[u8], s: &[u8], at: usize) -> io::Result<()> {
     let line = line_of(s, at);
-    print(name);
-    print(b":");
-    io::print_decimal(STDOUT_FILENO, line.number);
-    print(b": ");
-    print(part(s, line.start, run_end(Run::Line, s, at)));
-    print(b"\n");
+    rt.write_all(name)?;
+    rt.write_all(b":")?;
+    rt.print(line.number)?;
+    rt.write_all(b": ")?;
+    rt.write_all(part(s, line.start, run_end(Run::Line, s, at)))?;
+    rt.write_all(b"\n")
 }
 
-fn print_counts(name: &[u8], by_powers: u64, faults: u64) {
-    print(name);
-    print(b": ");
-    io::print_decimal(STDOUT_FILENO, by_powers);
-    print(b" by powers of two, faults ");
-    io::print_decimal(STDOUT_FILENO, faults);
-    print(b"\n");
+fn print_counts<R: Print>(rt: &R, name: &[u8], by_powers: u64, faults: u64) -> io::Result<()> {
+    rt.write_all(name)?;
+    println!(rt; ": {by_powers} by powers of two, faults {faults}")
 }
 
-fn search(name: &[u8], s: &[u8]) {
+fn search<R: Env + Print>(rt: &R, name: &[u8], s: &[u8]) -> io::Result<()> {
     let mut by_powers = 0u64;
     let mut faults = 0u64;
     let mut at = 0usize;
     while at < s.len() {
         let t = token_from(s, at);
-        let found = judged(s, t);
+        let found = judged(rt, s, t);
         by_powers = wrapping_add_u64(by_powers, found.by_powers);
         faults = wrapping_add_u64(faults, found.faults);
         if found.faults != 0 {
-            print_fault(name, s, t.start);
+            print_fault(rt, name, s, t.start)?;
         }
         // Never so, but the prover must see that the search ends; the missing counts would tell.
         if found.next <= at {
-            return;
+            return Ok(());
         }
         at = found.next;
     }
-    print_counts(name, by_powers, faults);
+    print_counts(rt, name, by_powers, faults)
 }
 
-fn search_argument(i: usize) {
-    let mut name = io::buffer();
-    let mut text = io::large_buffer();
-    let n = os::arg(i, &mut name);
+// The most bytes that a source is read of, and one more.
+const MOST_TEXT: usize = 65536;
+
+// Puts a file into a buffer, and answers how many bytes it has; 0 where it cannot be opened.
+fn file<R: Files>(rt: &R, name: &[u8], text: &mut [u8]) -> usize {
+    let Ok(path) = str::from_utf8(name) else {
+        return 0;
+    };
+    match File::open(rt, path) {
+        Ok(mut file) => streams::read_full(&mut file, text),
+        Err(_) => 0,
+    }
+}
+
+fn search_argument<R: Env + Files + Print>(rt: &R, i: usize) -> io::Result<()> {
+    let mut name = [0u8; MOST_NAME];
+    let mut text = [0u8; MOST_TEXT];
+    let n = argument(rt, i, &mut name);
     let name = part(&name, 0, n);
-    let len = io::read_full(os::open_read(name), &mut text);
+    let len = file(rt, name, &mut text);
     // No counts are printed of a source that is missing, empty or not read whole.
     if len != 0 && len != text.len() {
-        search(name, part(&text, 0, len));
+        return search(rt, name, part(&text, 0, len));
     }
+    Ok(())
 }
 
-fn main() {
-    for i in 1..os::arg_count() {
-        search_argument(i);
+fn main(rt: HostRuntime) -> io::Result<()> {
+    for i in 1..argument_count(&rt) {
+        search_argument(&rt, i)?;
     }
+    Ok(())
 }
