@@ -13,7 +13,9 @@ ghost use Rattle.decimal.specs.Seven.{minus, with_point, seven_decimals};
 ghost use Rattle.decimal.specs.Parts.{value_of, Proper, part};
 
 use buffer::put_bytes;
-use digits::{put_eight, put_up_to_eight};
+use digits::put_eight;
+// A line of its own: the program `divisions` reads no list of names.
+use digits::put_up_to_eight;
 use floats::rounding::nearest_shifted;
 
 // A whole number below 10^40 by five parts of eight decimal digits, p4 the highest.
