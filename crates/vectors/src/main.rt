@@ -13,9 +13,10 @@ use colorimetry::Conversion;
 use encoding_plan::Encoding;
 use job::JobAnswer;
 use job_output::{JobProfile, MOST_LISTING, Output};
-use libc::STDOUT_FILENO;
 use numbers::S15Fixed16;
 use reading::Reading;
+use std::fs::{File, Files};
+use std::io;
 use std::num::{wrapping_add_u64, wrapping_add_usize, wrapping_sub_usize};
 use white_point::WhiteXyz;
 use words::read_u32_be;
@@ -520,10 +521,13 @@ fn count(tally: &mut [u64; PLACES], letter: u8, outcome: u8, line: u64) {
     }
 }
 
+// The most bytes that the fields of a record hold together, or an answer.
+const MOST_FIELD: usize = 65536;
+
 // Goes over the records of a list, which begin at `start`, in line 2.
 fn replay(list: &[u8], start: usize, tally: &mut [u64; PLACES]) {
-    let mut bytes = io::large_buffer();
-    let mut out = io::large_buffer();
+    let mut bytes = [0u8; MOST_FIELD];
+    let mut out = [0u8; MOST_FIELD];
     let mut at = start;
     let mut line = 1u64;
     while at < list.len() {
@@ -546,19 +550,22 @@ fn replay(list: &[u8], start: usize, tally: &mut [u64; PLACES]) {
 // ---- the program
 
 // A byte of a text. One after a # names a place of the tally, whose number is printed for both.
-fn print_byte(text: &[u8], i: usize, tally: &[u64; PLACES]) {
+fn print_byte<R: Print>(rt: &R, text: &[u8], i: usize, tally: &[u64; PLACES]) -> io::Result<()> {
     let b = byte_at(text, i);
     if byte_at(text, wrapping_sub_usize(i, 1)) == b'#' {
-        io::print_decimal(STDOUT_FILENO, tally[b as usize]);
+        rt.print(tally[b as usize])
     } else if b != b'#' {
-        io::write_all(STDOUT_FILENO, part(text, i, 1));
+        rt.write_all(part(text, i, 1))
+    } else {
+        Ok(())
     }
 }
 
-fn print_tally(text: &[u8], tally: &[u64; PLACES]) {
+fn print_tally<R: Print>(rt: &R, text: &[u8], tally: &[u64; PLACES]) -> io::Result<()> {
     for i in 0..text.len() {
-        print_byte(text, i, tally);
+        print_byte(rt, text, i, tally)?;
     }
+    Ok(())
 }
 
 // Space for the list, or for the profiles of a job. The `ensures` gives only the length, so that no proof spells the bytes out.
@@ -568,10 +575,18 @@ fn room() -> [u8; 1650000]
     [UNTOUCHED; 1650000]
 }
 
-fn main() {
+// Puts a file into a space, and answers how many bytes it has; 0 where it cannot be opened.
+fn file<R: Files>(rt: &R, path: &str, space: &mut [u8]) -> usize {
+    match File::open(rt, path) {
+        Ok(mut file) => streams::read_full(&mut file, space),
+        Err(_) => 0,
+    }
+}
+
+fn main(rt: HostRuntime) -> io::Result<()> {
     let mut space = room();
     let mut tally = [0u64; PLACES];
-    let n = io::read_full(os::open_read(b"list"), &mut space);
+    let n = file(&rt, "list", &mut space);
     let list = part(&space, 0, n);
     if same_bytes(
         part(list, 0, 54),
@@ -582,7 +597,8 @@ fn main() {
         tally[FIRST] = 1;
     }
     print_tally(
+        &rt,
         b"m #M of #m\nb #B of #b\nf #F of #f\nn #N of #n\nt #T of #t\nc #C of #c\ng #G of #g\ne #E of #e\nr #R of #r\nj #J of #j\nwriter refused 1: #\x01, 3: #\x03, 4: #\x04, 5: #\x05, 6: #\x06, 7: #\x07, 8: #\x08, 9: #\x09\nreader refused 21: #\x15, 22: #\x16, 23: #\x17, 24: #\x18, 25: #\x19, 26: #\x1a, 27: #\x1b, 28: #\x1c\njob refused 41: #\x29, 42: #\x2a, 43: #\x2b\nfirst line that differs #\xff\n",
         &tally,
-    );
+    )
 }
