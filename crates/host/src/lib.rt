@@ -1,5 +1,5 @@
-// The writer, the job, the reader, the finder, the parser of descriptions and the two calls on APP2 segments for C and C++: include/merqyduk.h declares
-// these entries. An encoding comes as numbers, a job, a file, a text and segments as bytes, and the output is lent. A call that writes answers the length of
+// The writer, the job, the reader, the finder, the parser of descriptions and the two calls on APP2 segments for C and C++, which `host_c` exports. An
+// encoding comes as numbers, a job, a file, a text and segments as bytes, and the output is lent. A call that writes answers the length of
 // what it wrote (284 or more) or a number below 100, and then the output is unchanged; one that reads answers 0 or a number, and then the lent record is unchanged.
 
 #![tactic(auto)]
@@ -26,8 +26,7 @@ use job_output::JobProfile;
 
 // ---- the profile of an encoding
 
-#[unsafe(no_mangle)]
-pub extern "C" fn merqyduk_write_gray(
+pub fn merqyduk_write_gray(
     white: u32,
     wx: f32,
     wy: f32,
@@ -46,8 +45,7 @@ pub extern "C" fn merqyduk_write_gray(
     )
 }
 
-#[unsafe(no_mangle)]
-pub extern "C" fn merqyduk_write_rgb(
+pub fn merqyduk_write_rgb(
     white: u32,
     wx: f32,
     wy: f32,
@@ -75,8 +73,7 @@ pub extern "C" fn merqyduk_write_rgb(
     )
 }
 
-#[unsafe(no_mangle)]
-pub extern "C" fn merqyduk_write_xyb(intent: u32, out: &mut [u8]) -> u32
+pub fn merqyduk_write_xyb(intent: u32, out: &mut [u8]) -> u32
     ensures { WritesCode (plain (xyb_from (intent_from intent))) out.old out.new result }
 {
     coded_writer::write(encoding_codes::xyb_from_number(intent), 0, 0, out)
@@ -84,8 +81,7 @@ pub extern "C" fn merqyduk_write_xyb(intent: u32, out: &mut [u8]) -> u32
 
 // ---- the same with maker and model, four bytes each, the first the most significant
 
-#[unsafe(no_mangle)]
-pub extern "C" fn merqyduk_write_gray_device(
+pub fn merqyduk_write_gray_device(
     white: u32,
     wx: f32,
     wy: f32,
@@ -106,8 +102,7 @@ pub extern "C" fn merqyduk_write_gray_device(
     )
 }
 
-#[unsafe(no_mangle)]
-pub extern "C" fn merqyduk_write_rgb_device(
+pub fn merqyduk_write_rgb_device(
     white: u32,
     wx: f32,
     wy: f32,
@@ -137,13 +132,7 @@ pub extern "C" fn merqyduk_write_rgb_device(
     )
 }
 
-#[unsafe(no_mangle)]
-pub extern "C" fn merqyduk_write_xyb_device(
-    intent: u32,
-    maker: u32,
-    model: u32,
-    out: &mut [u8],
-) -> u32
+pub fn merqyduk_write_xyb_device(intent: u32, maker: u32, model: u32, out: &mut [u8]) -> u32
     ensures { WritesCode (coded false maker model (xyb_from (intent_from intent))) out.old out.new result }
 {
     coded_writer::write(encoding_codes::xyb_from_number(intent), maker, model, out)
@@ -151,8 +140,7 @@ pub extern "C" fn merqyduk_write_xyb_device(
 
 // ---- the length of a profile, before there is memory for it
 
-#[unsafe(no_mangle)]
-pub extern "C" fn merqyduk_length_gray(
+pub fn merqyduk_length_gray(
     white: u32,
     wx: f32,
     wy: f32,
@@ -169,8 +157,7 @@ pub extern "C" fn merqyduk_length_gray(
     )
 }
 
-#[unsafe(no_mangle)]
-pub extern "C" fn merqyduk_length_rgb(
+pub fn merqyduk_length_rgb(
     white: u32,
     wx: f32,
     wy: f32,
@@ -196,8 +183,7 @@ pub extern "C" fn merqyduk_length_rgb(
     )
 }
 
-#[unsafe(no_mangle)]
-pub extern "C" fn merqyduk_length_xyb(intent: u32, capacity: usize) -> u32
+pub fn merqyduk_length_xyb(intent: u32, capacity: usize) -> u32
     ensures { MeasuresCode (plain (xyb_from (intent_from intent))) capacity result }
 {
     coded_writer::length(encoding_codes::xyb_from_number(intent), capacity)
@@ -205,8 +191,7 @@ pub extern "C" fn merqyduk_length_xyb(intent: u32, capacity: usize) -> u32
 
 // ---- both with how many fixed numbers were rounded: in a lent number, which a refusal leaves as it was
 
-#[unsafe(no_mangle)]
-pub extern "C" fn merqyduk_write_gray_counted(
+pub fn merqyduk_write_gray_counted(
     white: u32,
     wx: f32,
     wy: f32,
@@ -225,8 +210,7 @@ pub extern "C" fn merqyduk_write_gray_counted(
     )
 }
 
-#[unsafe(no_mangle)]
-pub extern "C" fn merqyduk_write_rgb_counted(
+pub fn merqyduk_write_rgb_counted(
     white: u32,
     wx: f32,
     wy: f32,
@@ -254,15 +238,13 @@ pub extern "C" fn merqyduk_write_rgb_counted(
     )
 }
 
-#[unsafe(no_mangle)]
-pub extern "C" fn merqyduk_write_xyb_counted(intent: u32, out: &mut [u8], rounded: &mut u32) -> u32
+pub fn merqyduk_write_xyb_counted(intent: u32, out: &mut [u8], rounded: &mut u32) -> u32
     ensures { WritesCounted (plain (xyb_from (intent_from intent))) out.old out.new rounded.old rounded.new result }
 {
     coded_writer::write_counted(encoding_codes::xyb_from_number(intent), out, rounded)
 }
 
-#[unsafe(no_mangle)]
-pub extern "C" fn merqyduk_length_gray_counted(
+pub fn merqyduk_length_gray_counted(
     white: u32,
     wx: f32,
     wy: f32,
@@ -281,8 +263,7 @@ pub extern "C" fn merqyduk_length_gray_counted(
     )
 }
 
-#[unsafe(no_mangle)]
-pub extern "C" fn merqyduk_length_rgb_counted(
+pub fn merqyduk_length_rgb_counted(
     white: u32,
     wx: f32,
     wy: f32,
@@ -310,12 +291,7 @@ pub extern "C" fn merqyduk_length_rgb_counted(
     )
 }
 
-#[unsafe(no_mangle)]
-pub extern "C" fn merqyduk_length_xyb_counted(
-    intent: u32,
-    capacity: usize,
-    rounded: &mut u32,
-) -> u32
+pub fn merqyduk_length_xyb_counted(intent: u32, capacity: usize, rounded: &mut u32) -> u32
     ensures { MeasuresCounted (plain (xyb_from (intent_from intent))) capacity rounded.old rounded.new result }
 {
     coded_writer::length_counted(encoding_codes::xyb_from_number(intent), capacity, rounded)
@@ -323,8 +299,7 @@ pub extern "C" fn merqyduk_length_xyb_counted(
 
 // ---- gray with the mark "adapted" as a number, 0 or 1, with maker and model and with the count
 
-#[unsafe(no_mangle)]
-pub extern "C" fn merqyduk_write_gray_adapted(
+pub fn merqyduk_write_gray_adapted(
     white: u32,
     wx: f32,
     wy: f32,
@@ -349,8 +324,7 @@ pub extern "C" fn merqyduk_write_gray_adapted(
     )
 }
 
-#[unsafe(no_mangle)]
-pub extern "C" fn merqyduk_length_gray_adapted(
+pub fn merqyduk_length_gray_adapted(
     white: u32,
     wx: f32,
     wy: f32,
@@ -373,8 +347,7 @@ pub extern "C" fn merqyduk_length_gray_adapted(
 
 // ---- the encoding that a typed text describes
 
-#[unsafe(no_mangle)]
-pub extern "C" fn merqyduk_parse_description(text: &[u8], encoding: &mut [u8]) -> u32
+pub fn merqyduk_parse_description(text: &[u8], encoding: &mut [u8]) -> u32
     ensures { StoresEncoding (parse text.now) encoding.old encoding.new result }
 {
     match description_parser::parse_description(text) {
@@ -391,8 +364,7 @@ pub extern "C" fn merqyduk_parse_description(text: &[u8], encoding: &mut [u8]) -
 
 // ---- jobs
 
-#[unsafe(no_mangle)]
-pub extern "C" fn merqyduk_job(job: &[u8], entries: &mut u32) -> u32
+pub fn merqyduk_job(job: &[u8], entries: &mut u32) -> u32
     ensures { CountsEntries (job_answer (Job.job 1 job.now)) entries.old entries.new result }
 {
     match job::entries(job) {
@@ -405,8 +377,7 @@ pub extern "C" fn merqyduk_job(job: &[u8], entries: &mut u32) -> u32
 }
 
 // The entries are numbered from 0 on, over all sections.
-#[unsafe(no_mangle)]
-pub extern "C" fn merqyduk_job_profile(job: &[u8], i: usize, out: &mut [u8]) -> u32
+pub fn merqyduk_job_profile(job: &[u8], i: usize, out: &mut [u8]) -> u32
     ensures { ProfileOf profile_number (entry_answer (Job.job 1 job.now) i) out.old out.new result }
 {
     match job_output::profile(job, i, out) {
@@ -418,8 +389,7 @@ pub extern "C" fn merqyduk_job_profile(job: &[u8], i: usize, out: &mut [u8]) -> 
 
 // ---- files
 
-#[unsafe(no_mangle)]
-pub extern "C" fn merqyduk_read(file: &[u8], plan: &mut [u8]) -> u32
+pub fn merqyduk_read(file: &[u8], plan: &mut [u8]) -> u32
     ensures { ReadsPlan (reading (Read.read file.now)) plan.old plan.new result }
 {
     let answer = reader::read(file);
@@ -434,8 +404,7 @@ pub extern "C" fn merqyduk_read(file: &[u8], plan: &mut [u8]) -> u32
 }
 
 // The signature is its four bytes as one number, the first byte the most significant.
-#[unsafe(no_mangle)]
-pub extern "C" fn merqyduk_find(file: &[u8], signature: u32, offset: &mut u32) -> u32
+pub fn merqyduk_find(file: &[u8], signature: u32, offset: &mut u32) -> u32
     ensures { FindsElement (Finder.found file.now (be32 signature)) offset.old offset.new result }
 {
     let mut bytes = [0u8; 4];
@@ -449,8 +418,7 @@ pub extern "C" fn merqyduk_find(file: &[u8], signature: u32, offset: &mut u32) -
 
 // ---- a profile in APP2 segments
 
-#[unsafe(no_mangle)]
-pub extern "C" fn merqyduk_write_segments(file: &[u8], size: usize, out: &mut [u8]) -> u32
+pub fn merqyduk_write_segments(file: &[u8], size: usize, out: &mut [u8]) -> u32
     ensures { GivesNumber (written_segments file.now size (length out.old)) out.old out.new result }
 {
     match segments_writer::write_segments(file, size, out) {
@@ -459,8 +427,7 @@ pub extern "C" fn merqyduk_write_segments(file: &[u8], size: usize, out: &mut [u
     }
 }
 
-#[unsafe(no_mangle)]
-pub extern "C" fn merqyduk_join_segments(segments: &[u8], out: &mut [u8]) -> u32
+pub fn merqyduk_join_segments(segments: &[u8], out: &mut [u8]) -> u32
     ensures { GivesNumber (joined_file segments.now (length out.old)) out.old out.new result }
 {
     match segments_joiner::join_segments(segments, out) {
