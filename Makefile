@@ -1,10 +1,10 @@
 # The library for C and C++, for those who use it rather than change it.
 #
-#   make            build/libmerqyduk.a. rt proves the crates that it stands on first: minutes, half a minute where target/ has them proved
+#   make            build/libmerqyduk.a. rt proves the crates that it stands on first: minutes, half a minute where it has kept them in crates/*/out/
 #   make install    the headers, the library and merqyduk.pc under PREFIX, which is /usr/local if not given; DESTDIR goes before it
 #   make uninstall  removes these four files
 #   make test       host/test.sh: the library, the headers and the examples
-#   make clean      removes build/. What is proved stays in target/
+#   make clean      removes build/. What is proved stays in crates/*/out/
 #
 # The gate is not this but rt ci.
 
@@ -20,8 +20,10 @@ lib_to = $(DESTDIR)$(LIBDIR)
 pc_include = $(patsubst $(PREFIX)/%,$${prefix}/%,$(INCLUDEDIR))
 pc_lib = $(patsubst $(PREFIX)/%,$${prefix}/%,$(LIBDIR))
 library = build/libmerqyduk.a
+# What rt makes of the crate host_c.
+made = crates/host_c/out/libhost_c.a
 version = $(shell sed -n 's/.*MERQYDUK_VERSION_STRING "\(.*\)"/\1/p' include/merqyduk.h)
-sources = crates.txt $(shell find crates -name must-fail -prune -o -type f \( -name '*.rt' -o -name '*.antt' \) -print)
+sources = crates.txt $(shell find crates \( -name must-fail -o -path 'crates/*/out' \) -prune -o -type f \( -name '*.rt' -o -name '*.antt' \) -print)
 
 .DELETE_ON_ERROR:
 .PHONY: all install uninstall test clean
@@ -31,11 +33,11 @@ all: $(library)
 $(library): $(sources)
 	@command -v $(RT) >/dev/null || { echo 'make: $(RT) is not installed; it proves and compiles the library' >&2; exit 1; }
 	@mkdir -p build
-	@echo 'proving and compiling the library; build/staticlib.log takes what rt says' >&2
-	@rm -f target/staticlib/libhost.a
-	@$(RT) staticlib host 2>&1 | tee build/staticlib.log | awk '/^rt: / && !/unchanged since/ { print; fflush() }' >&2
-	@[ -f target/staticlib/libhost.a ] || { grep -E 'error|not proved' build/staticlib.log | cut -c 1-300 | head -n 20 >&2; echo 'make: the library was not built; build/staticlib.log has what rt says' >&2; exit 1; }
-	cp target/staticlib/libhost.a $@
+	@echo 'proving and compiling the library; build/lib.log takes what rt says' >&2
+	@rm -f $(made)
+	@(cd crates/host_c && $(RT) lib) 2>&1 | tee build/lib.log | awk '/^rt: / && !/begins with what/ { print; fflush() }' >&2
+	@[ -f $(made) ] || { grep -E 'error|not proved' build/lib.log | cut -c 1-300 | head -n 20 >&2; echo 'make: the library was not built; build/lib.log has what rt says' >&2; exit 1; }
+	cp $(made) $@
 
 install: $(library)
 	@case '$(PREFIX)' in /*) ;; *) echo 'make: PREFIX is a path from the root on, not $(PREFIX)' >&2; exit 1 ;; esac

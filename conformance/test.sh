@@ -11,8 +11,8 @@ out=${1:-$top/target/conformance}
 judge=$top/target/differential/target/release/judge
 mkdir -p "$out"
 
-(cd "$top" && rt staticlib host) >"$out/staticlib.log" 2>&1 || { tail -n 20 "$out/staticlib.log"; exit 1; }
-cc -std=c99 -O2 -Wall -Wextra -pedantic -I"$top/include" "$here/merqyduk.c" "$top/target/staticlib/libhost.a" -o "$out/merqyduk"
+(cd "$top/crates/host_c" && rt lib) >"$out/lib.log" 2>&1 || { tail -n 20 "$out/lib.log"; exit 1; }
+cc -std=c99 -O2 -Wall -Wextra -pedantic -I"$top/include" "$here/merqyduk.c" "$top/crates/host_c/out/libhost_c.a" -o "$out/merqyduk"
 
 # Tries a program; shows the last line, or all where an answer is wrong.
 right() {

@@ -15,11 +15,11 @@ if [ $# -gt 1 ]; then
 fi
 here=$(cd "$(dirname "$0")" && pwd)
 out=${1:-$here/../target/differential}
-[ -f "$out/port/target/staticlib/libleaves.a" ] || fail "no port/target/staticlib/libleaves.a in $out: run compare.sh before"
+[ -f "$out/libraries/libleaves.a" ] || fail "no libraries/libleaves.a in $out: run compare.sh before"
 printf '#include <openssl/md5.h>\n' | c++ -fsyntax-only -x c++ - 2>/dev/null || fail "no openssl/md5.h, install libssl-dev"
-c++ -std=c++17 -O2 -Wno-deprecated-declarations "$here/bench/leaves.cpp" "$out/port/target/staticlib/libleaves.a" -lcrypto -o "$out/leaves"
+c++ -std=c++17 -O2 -Wno-deprecated-declarations "$here/bench/leaves.cpp" "$out/libraries/libleaves.a" -lcrypto -o "$out/leaves"
 "$out/leaves"
-c++ -std=c++11 -O2 -I"$here/../include" "$here/bench/reader.cpp" "$out/port/target/staticlib/libhost.a" "$out/port/target/staticlib/libleaves.a" -o "$out/reader"
+c++ -std=c++11 -O2 -I"$here/../include" "$here/bench/reader.cpp" "$out/libraries/libhost_c.a" "$out/libraries/libleaves.a" -o "$out/reader"
 "$out/reader"
-c++ -std=c++11 -O2 -I"$here/../include" "$here/bench/segments.cpp" "$out/port/target/staticlib/libhost.a" -o "$out/segments"
+c++ -std=c++11 -O2 -I"$here/../include" "$here/bench/segments.cpp" "$out/libraries/libhost_c.a" -o "$out/segments"
 "$out/segments"

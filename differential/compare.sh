@@ -6,8 +6,8 @@
 #   differential/compare.sh floats
 #   differential/compare.sh bench
 #
-# SRC and OUT in the environment are the folders of build.sh, which this runs first. What the
-# repository's own target/ has proved is not proved again.
+# SRC and OUT in the environment are the folders of build.sh, which this runs first. What rt has
+# proved and kept in the repository is not proved again.
 set -eu
 
 usage() {
@@ -53,53 +53,43 @@ echo "compare.sh: building the judge" >&2
 "$here/build.sh" "$src" "$out"
 out=$(cd "$out" && pwd)
 
-# The repository's crates, with one more that exports the leaves to C.
-mkdir -p "$out/port/crates"
-rm -rf "$out/port/crates"
-cp -R "$here/../crates" "$out/port/crates"
-mkdir -p "$out/port/crates/leaves/src"
-cp "$here/leaves/lib.rt.in" "$out/port/crates/leaves/src/lib.rt"
-cp "$here/../crates.txt" "$out/port/crates.txt"
-echo "leaves: floats buffer words numbers md5 linalg matrix_inverse decimal text color_encoding encoding_codes white_point icc_matrix adaptation colorimetry validate job job_output reading reader" >>"$out/port/crates.txt"
-
-# A crate that the repository's target/ has proved later than this folder's is taken over; rt proves
-# again what has changed since.
-mkdir -p "$out/port/target/stamp" "$out/port/target/rlib" "$out/port/target/log"
-taken=0
-for rlib in "$here"/../target/rlib/*.rlib; do
-    name=$(basename "$rlib" .rlib)
-    stamp=$here/../target/stamp/$name
-    ours=$out/port/target/stamp/$name
-    [ -f "$stamp" ] || continue
-    [ ! -f "$ours" ] || [ -n "$(find "$stamp" -newer "$ours")" ] || continue
-    rm -rf "$out/port/target/rlib/$name.rlib"
-    for file in "rlib/$name.rlib" "log/$name.out" "log/$name.res" "log/$name.say" "stamp/$name"; do
-        [ ! -e "$here/../target/$file" ] || cp -Rp "$here/../target/$file" "$out/port/target/$file"
-    done
-    taken=$((taken + 1))
-done
-echo "compare.sh: crates that target/ has proved since the last run, taken over: $taken" >&2
-
-# The libraries are built again where a file of theirs has changed.
-files=$(cd "$out/port" && find crates crates.txt -type f | LC_ALL=C sort | xargs sha256sum)
+# The port's libraries are built again where a file of theirs has changed.
+top=$(cd "$here/.." && pwd)
+files=$(cd "$top" && find crates.txt crates differential/leaves -path 'crates/*/out' -prune -o -type f -print | LC_ALL=C sort | xargs sha256sum)
 sum=$(printf '%s\n' "$(rt version)" "$files" | sha256sum)
-if [ "$sum" = "$(cat "$out/port.sum" 2>/dev/null)" ]; then
+libraries=$out/libraries
+if [ "$sum" = "$(cat "$libraries/sum" 2>/dev/null)" ]; then
     echo "compare.sh: the port's libraries are as they were" >&2
 else
-    rm -f "$out/port.sum"
-    for library in leaves host; do
-        echo "compare.sh: building lib$library.a; $out/port.log has what rt says" >&2
-        # Of what rt says, only which crate was proved just now.
-        rm -f "$out/port.built"
-        { cd "$out/port" && rt staticlib "$library" 2>&1 && : >"$out/port.built"; } | tee "$out/port.log" |
-            awk '/^rt: / && !/unchanged since/ { print; fflush() }' >&2
-        [ -f "$out/port.built" ] || {
-            grep -E 'error|not proved' "$out/port.log" | cut -c 1-300 | head -n 20 >&2
-            echo "compare.sh: lib$library.a was not built; $out/port.log has what rt says" >&2
+    rm -rf "$libraries"
+    mkdir -p "$libraries"
+    room=$(mktemp -d)
+    trap 'rm -rf "$room"' EXIT
+
+    # Builds a static library. Of what rt says, only which crate is proved just now.
+    build() { # FOLDER CRATE
+        echo "compare.sh: building lib$2.a; $libraries/$2.log has what rt says" >&2
+        { cd "$1/crates/$2" && rt lib 2>&1; } | tee "$libraries/$2.log" | awk '/^rt: chose/ { print; fflush() }' >&2
+        cp "$1/crates/$2/out/lib$2.a" "$libraries" || {
+            grep -E 'error|not proved' "$libraries/$2.log" | cut -c 1-300 | head -n 20 >&2
+            echo "compare.sh: lib$2.a was not built; $libraries/$2.log has what rt says" >&2
             exit 1
         }
-    done
-    printf '%s\n' "$sum" >"$out/port.sum"
+    }
+    rm -f "$top/crates/host_c/out/libhost_c.a"
+    build "$top" host_c
+
+    # A copy of the crates, with one more that exports the leaves to C, stands outside of the repository, where rt ci wants no other crates. What rt has
+    # kept of a crate that is proved goes along, and is not proved again.
+    (cd "$top" && {
+        find crates.txt crates -path 'crates/*/out' -prune -o -path 'crates/*/must-fail' -prune -o -path 'crates/*/data' -prune -o -type f -print
+        find crates -path 'crates/*/out/rlib/*' -type f -print
+    } | tar -cf - -T -) | tar -xf - -C "$room"
+    mkdir -p "$room/crates/leaves/src"
+    cp "$here/leaves/lib.rt.in" "$room/crates/leaves/src/lib.rt"
+    echo "leaves staticlib: floats buffer words numbers md5_digest linalg matrix_inverse decimal text color_encoding encoding_codes white_point icc_matrix adaptation colorimetry validate job job_output reading reader" >>"$room/crates.txt"
+    build "$room" leaves
+    printf '%s\n' "$sum" >"$libraries/sum"
 fi
 
 # Counts have a program of their own.
@@ -112,5 +102,5 @@ echo "compare.sh: building the comparison" >&2
 rm -rf "${out:?}/$program"
 cp -R "$here/$program" "$out/$program"
 cd "$out/$program"
-PORT_LIBRARIES=$out/port/target/staticlib cargo build --release --offline --quiet --target-dir "$out/target"
+PORT_LIBRARIES=$libraries cargo build --release --offline --quiet --target-dir "$out/target"
 "$out/target/release/$program" "$@"

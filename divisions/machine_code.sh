@@ -26,7 +26,7 @@ divides() { # FILE
 }
 size() { echo "$(grep -c '>:$' "$room/code") functions, $(grep -cE '^ +[0-9a-f]+:' "$room/code") instructions"; }
 build() { # FOLDER CRATE
-    (cd "$1" && rt staticlib "$2") >"$room/said" 2>&1 || { cat "$room/said" >&2; fail "$2 is not built"; }
+    (cd "$1/crates/$2" && rt lib) >"$room/said" 2>&1 || { cat "$room/said" >&2; fail "$2 is not built"; }
 }
 
 cat >"$room/divides.c" <<'C'
@@ -45,14 +45,19 @@ echo "C: 7 of 7 divisions found"
 
 mkdir -p "$room/crates/seven_decimals/src"
 for crate in floats buffer digits decimal; do
-    cp -R "$top/crates/$crate" "$room/crates/$crate"
+    mkdir "$room/crates/$crate"
+    for part in src specs proofs; do
+        [ ! -d "$top/crates/$crate/$part" ] || cp -R "$top/crates/$crate/$part" "$room/crates/$crate/$part"
+    done
     grep "^$crate:" "$top/crates.txt"
 done >"$room/crates.txt"
-echo 'seven_decimals: decimal' >>"$room/crates.txt"
+echo 'seven_decimals staticlib: decimal' >>"$room/crates.txt"
 cat >"$room/crates/seven_decimals/src/lib.rt" <<'RATTLE'
+#![tactic(auto)]
+
 use decimal::put_seven_decimals;
 
-#[no_mangle]
+#[unsafe(no_mangle)]
 pub extern "C" fn seven_decimals(x: f32, out: &mut [u8]) -> usize {
     if out.len() < 48 {
         return 0;
@@ -61,12 +66,12 @@ pub extern "C" fn seven_decimals(x: f32, out: &mut [u8]) -> usize {
 }
 RATTLE
 build "$room" seven_decimals
-found=$(divides "$room/target/staticlib/libseven_decimals.a")
+found=$(divides "$room/crates/seven_decimals/out/libseven_decimals.a")
 [ -z "$found" ] || fail "on the way to the seven-decimal text: $found"
 echo "the seven-decimal text: $(size): none divides"
 
-build "$top" host
-found=$(divides "$top/target/staticlib/libhost.a")
+build "$top" host_c
+found=$(divides "$top/crates/host_c/out/libhost_c.a")
 grep -q '<decimal::put_seven_decimals>:$' "$room/code" || fail "the library has no decimal::put_seven_decimals"
 printf '%s\n' "$found" | grep -E '<(decimal|digits)::| (i?div[bwlq]?|__.*)$' && fail "in the library"
 echo "the library: $(size): none divides integers; these divide floats:"

@@ -8,11 +8,15 @@
 set -eu
 here=$(cd "$(dirname "$0")" && pwd)
 top=$(cd "$here/.." && pwd)
-[ -n "${BIN:-}" ] || (cd "$top" && rt check divisions >/dev/null)
-program=${BIN:-$top/target/bin}/divisions
 crate=$top/crates/divisions
+program=${BIN:-$crate/out}/divisions
 room=$(mktemp -d)
 trap 'rm -rf "$room"' EXIT
+# rt builds a program where it runs it; with no source it prints nothing.
+[ -n "${BIN:-}" ] || (cd "$crate" && rt run) >"$room/said" 2>&1 || {
+    cat "$room/said" >&2
+    exit 1
+}
 cp -R "$crate/data" "$room/data"
 cd "$room/data"
 sources=$(grep -v '^trial$' "$crate/args")

@@ -5,7 +5,7 @@
 #
 # TEXT is jobs/example.txt if left out. OUT is target/jobs if left out: it takes the job, what the programs wrote (listing, profiles), and each
 # profile as a file, 2-1.icc being the first entry of section 2; such files of an earlier run are removed.
-# The programs are built by rt; where they stand elsewhere, BIN in the environment is their folder, and nothing is built.
+# The programs are built by rt and copied to OUT/bin; where they stand elsewhere, BIN in the environment is their folder, and nothing is built.
 set -eu
 
 usage() {
@@ -42,16 +42,21 @@ python3 "$here/make_job.py" "$text" >"$out/job" || fail "$text is not the text o
 rm -f "$out"/[123]-*.icc
 
 if [ -z "${BIN:-}" ]; then
-    BIN=$top/target/bin
+    BIN=$out/bin
+    mkdir -p "$BIN"
     command -v rt >/dev/null || fail "rt is not installed: it builds listing and profiles (BIN names the folder of built ones)"
     echo "Building listing and profiles (what they stand on is proved first: minutes, where nothing is proved yet) ..." >&2
-    # Of what rt says, only which crate was proved just now.
-    rm -f "$out/built"
-    { cd "$top" && rt check listing profiles 2>&1 && : >"$out/built"; } | tee "$out/build.log" | awk '/^rt: / && !/unchanged since/ { print; fflush() }' >&2
-    [ -f "$out/built" ] || {
-        grep -E 'error|not proved' "$out/build.log" | cut -c 1-300 | head -n 20 >&2
-        fail "listing and profiles were not built; $out/build.log has what rt says"
-    }
+    for program in listing profiles; do
+        # rt builds a program where it runs it. Of what rt says, only which crate is proved just now.
+        rm -f "$out/built"
+        { cd "$top/crates/$program" && rt run 2>&1 </dev/null && : >"$out/built"; } | tee "$out/build-$program.log" |
+            awk '/^rt: chose/ { print; fflush() }' >&2
+        [ -f "$out/built" ] || {
+            grep -E 'error|not proved' "$out/build-$program.log" | cut -c 1-300 | head -n 20 >&2
+            fail "$program was not built; $out/build-$program.log has what rt says"
+        }
+        cp "$top/crates/$program/out/$program" "$BIN/$program"
+    done
 fi
 
 "$BIN/listing" <"$out/job" >"$out/listing" || fail "listing ended with status $?"

@@ -123,7 +123,7 @@ bad_words "$out/no-such-folder" "$out/two.txt" "$out/none"
     echo "run.sh failed (see above and $out/two.out), so the programs were not tried"
     exit 1
 }
-BIN=${BIN:-$top/target/bin}
+BIN=${BIN:-$out/two/bin}
 is_file "$out/two/2-1.icc" 504 f5a0eb4fe51f41b1b7f67928ca8796bf && is_file "$out/two/3-1.icc" 720 e6141b97b55a17e837e3aa1c5b81a742 &&
     grep -q '^2 rgb  *1  *2  *504  02b3f6a3cc2f584479617b0037673aa1  2-1.icc$' "$out/two.out" &&
     grep -q '^3 xyb  *1  *1  *720  3ad7bbf0b07c0a42c9f933dfaf91e3e9  3-1.icc$' "$out/two.out" &&
@@ -319,19 +319,18 @@ refused 42 "the fullest job and a byte more" "$out/longer.job"
 
 # ---- outputs that cannot be written
 
-# A program has no exit status of its own, so it ends with 0; it must end, and say nothing.
+# A program that could not write ends with status 1, and standard error has a line that says why.
+unwritten() { # PROGRAM WHAT STATUS
+    [ "$3" -eq 1 ] && [ "$(grep -c '' "$out/said")" -eq 1 ] && grep -q '^Error: ' "$out/said"
+    held "$1: $2 (status $3)"
+}
 for program in listing profiles; do
     timeout 60 "$BIN/$program" <"$out/full.job" >/dev/full 2>"$out/said"
-    status=$?
-    [ "$status" -eq 0 ] && [ ! -s "$out/said" ]
-    held "$program: a full device as output (status $status)"
+    unwritten "$program" "a full device as output" $?
     timeout 60 "$BIN/$program" <"$out/full.job" >&- 2>"$out/said"
-    status=$?
-    [ "$status" -eq 0 ] && [ ! -s "$out/said" ]
-    held "$program: standard output closed (status $status)"
+    unwritten "$program" "standard output closed" $?
 
-    # A pipe whose reader has closed it before the program starts. The system ends the program by SIGPIPE (141 in a shell), unless whoever
-    # started this script had the signal ignored; then the write fails, as above.
+    # A pipe whose reader has closed it before the program starts.
     mkfifo "$out/go"
     {
         read -r _ <"$out/go"
@@ -342,9 +341,7 @@ for program in listing profiles; do
         echo >"$out/go"
     }
     rm "$out/go"
-    status=$(cat "$out/status")
-    { [ "$status" -eq 141 ] || [ "$status" -eq 0 ]; } && [ ! -s "$out/said" ]
-    held "$program: a closed pipe as output (status $status)"
+    unwritten "$program" "a closed pipe as output" "$(cat "$out/status")"
 done
 
 echo "$((tried - failed)) of $tried"

@@ -27,7 +27,8 @@ def read(path):
         for line in file:
             name, colon, below = line.partition("#")[0].partition(":")
             if colon:
-                depends[name.strip()] = below.split()
+                # A static library has a word behind its name.
+                depends[name.split()[0]] = below.split()
     return {name: [b for b in below if b in depends] for name, below in depends.items()}
 
 
