@@ -43,7 +43,8 @@ for source in $sources; do
                 *) want="$source:$((line + 1)): n $operator $operand;" ;;
                 esac
                 tried=$((tried + 1))
-                said_with "$source" "$line" "n $operator $operand;" | grep -qxF "$want" || {
+                # grep reads to the end: a program that cannot write says so.
+                said_with "$source" "$line" "n $operator $operand;" | grep -xF "$want" >/dev/null || {
                     wrong=$((wrong + 1))
                     echo "$source, after line $line, n $operator $operand: not $want"
                 }

@@ -16,6 +16,6 @@ front a n xs ys rest within fits =
 
 pub loop-done-preserved : goal.loop-done-preserved
 loop-done-preserved g c = record {
-    within = search rules;
-    bytes = subst (Consumes _ _) (front c.loop-done.done c.in-Ok.n c.loop-done.buf c.read.new.buf _ c.loop-done.invariant.within c.in-Ok.ensures.bound.0) (Consumes-trans _ _ _ _ _ c.loop-done.invariant.bytes c.in-Ok.ensures.bytes.0);
-  }
+  within = search rules;
+  bytes = subst (Consumes _ _) (front c.loop-done.done c.in-Ok.n c.loop-done.buf c.read.new.buf _ c.loop-done.invariant.within c.in-Ok.ensures.bound.0) (Consumes-trans _ _ _ _ _ c.loop-done.invariant.bytes c.in-Ok.ensures.bytes.0);
+}
