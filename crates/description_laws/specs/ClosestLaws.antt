@@ -1,5 +1,5 @@
 -- The whole number that `closest` gives is nearest to the fraction, and even where another one is as near. Assumes nothing.
-use Rattle.std.specs.Prelude.{ℕ, zero, suc, ◌+◌, ◌-◌, ◌*◌, ◌/◌, ◌%◌, ◌≤◌, ◌<◌, ◌≡◌, refl, ◌⊎◌, Bool, true, false, ltb}
+use Rattle.std.specs.Prelude.{ℕ, zero, suc, ◌+◌, ◌*◌, ◌/◌, ◌%◌, ◌≤◌, ◌<◌, ◌≡◌, refl, ◌⊎◌, Bool, true, false, ltb}
 use Rattle.std.proofs.Common.{le_trans, le_antisymm, le_of_eq, mul-le-mul_right, suc-mul, add-mul, mod-lt, div-add-mod', arith, sym, ap, ◌∙◌, inl, inr, ltb-true, ltb-false}
 use Rattle.std.specs.Float.Ieee.Nearest.{closest}
 use Rattle.floats.specs.RoundingLaws.{closest-below, closest-above, closest-tie}

@@ -15,7 +15,8 @@ use Rattle.color_encoding.specs.declared.JxlColorEncoding.{JxlColorEncoding}
 use Rattle.color_encoding.specs.declared.JxlColorEncoding.TheVariants.{RgbColorSpace, GrayscaleColorSpace, XYB}
 use Rattle.color_encoding.specs.Intent.{intent_name}
 use Rattle.common_names.specs.Common.{common}
-use Rattle.text.specs.Description.{comma, semicolon, underscore, white_name, primaries_name, transfer_name, srgb, display_p3, rec2100_pq, rec2100_hlg}
+use Rattle.text.specs.Description.{comma, semicolon, underscore, white_name, primaries_name, transfer_name, display_p3, rec2100_pq, rec2100_hlg}
+use Rattle.text.specs.Description as the-names
 use Rattle.scanner.specs.Grammar.{Headed, Joined}
 use Rattle.decimal_parser.specs.FloatText.{FloatText}
 
@@ -75,7 +76,7 @@ common_name w p t i = common w p t i []
 
 -- The text describes the encoding. A long form that a common name replaces does not.
 pub data Describes (text : List ℕ) : JxlColorEncoding → Type 0 where
-  srgb : text ≡ srgb → Describes text (RgbColorSpace W.D65 P.SRGB F.SRGB Perceptual)
+  srgb : text ≡ the-names.srgb → Describes text (RgbColorSpace W.D65 P.SRGB F.SRGB Perceptual)
   p3 : text ≡ display_p3 → Describes text (RgbColorSpace W.D65 P.P3 F.SRGB Perceptual)
   pq : text ≡ rec2100_pq → Describes text (RgbColorSpace W.D65 P.BT2100 F.PQ Relative)
   hlg : text ≡ rec2100_hlg → Describes text (RgbColorSpace W.D65 P.BT2100 F.HLG Relative)

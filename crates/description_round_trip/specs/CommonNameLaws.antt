@@ -80,7 +80,7 @@ module _ (w : JxlWhitePoint) (p : JxlPrimaries) (t : JxlTransferFunction) (i : R
   pub by_common_name : (Q : JxlColorEncoding → Type 0) → Q (RgbColorSpace W.D65 P.SRGB F.SRGB Perceptual) → Q (RgbColorSpace W.D65 P.P3 F.SRGB Perceptual)
       → Q (RgbColorSpace W.D65 P.BT2100 F.PQ Relative) → Q (RgbColorSpace W.D65 P.BT2100 F.HLG Relative)
       → (Unnamed → Q (RgbColorSpace w p t i)) → Q (RgbColorSpace w p t i)
-  by_common_name Q srgb p3 pq hlg long = go srgb_test p3_test pq_test hlg_test refl refl refl refl
+  by_common_name Q of_srgb of_p3 of_pq of_hlg long = go srgb_test p3_test pq_test hlg_test refl refl refl refl
     where
       srgb_test : Bool
       srgb_test = matches w p t i W.D65 P.SRGB F.SRGB Perceptual
@@ -95,10 +95,10 @@ module _ (w : JxlWhitePoint) (p : JxlPrimaries) (t : JxlTransferFunction) (i : R
       hlg_test = matches w p t i W.D65 P.BT2100 F.HLG Relative
 
       go : (a b c d : Bool) → srgb_test ≡ a → p3_test ≡ b → pq_test ≡ c → hlg_test ≡ d → Q (RgbColorSpace w p t i)
-      go true b c d e f g h = subst Q (matched W.D65 P.SRGB F.SRGB Perceptual e) srgb
-      go false true c d e f g h = subst Q (matched W.D65 P.P3 F.SRGB Perceptual f) p3
-      go false false true d e f g h = subst Q (matched W.D65 P.BT2100 F.PQ Relative g) pq
-      go false false false true e f g h = subst Q (matched W.D65 P.BT2100 F.HLG Relative h) hlg
+      go true b c d e f g h = subst Q (matched W.D65 P.SRGB F.SRGB Perceptual e) of_srgb
+      go false true c d e f g h = subst Q (matched W.D65 P.P3 F.SRGB Perceptual f) of_p3
+      go false false true d e f g h = subst Q (matched W.D65 P.BT2100 F.PQ Relative g) of_pq
+      go false false false true e f g h = subst Q (matched W.D65 P.BT2100 F.HLG Relative h) of_hlg
       go false false false false e f g h =
           long (λ text.
           ap₂ (λ (a b : Bool). cond a srgb (cond b display_p3 (cond pq_test rec2100_pq (cond hlg_test rec2100_hlg text)))) e f

@@ -1,13 +1,12 @@
--- Which variants have names, by the tag that a `match` tells and by their numbers; and a part that is put for a variant.
+-- Which variants have names, by what a `match` tells and by their numbers; and a part that is put for a variant.
 -- Assumes nothing.
-use Prim.Native.Nat.{ℕ, ◌+◌, ◌≤◌, ◌<◌}
-use mathlib.Core.Path.{◌≡◌, refl, sym, ap, ◌∙◌}
-use mathlib.Core.List.{List, [], ◌∷◌}
+use Prim.Native.Nat.{ℕ, ◌≤◌, ◌<◌}
+use mathlib.Core.Path.{◌≡◌, refl, sym, ap}
+use mathlib.Core.List.{List}
 use native.Mathlib.Omega.{arith}
 use lib.Dec.{lit≤}
 use lib.ListN.{length}
-use types.Run.{OneOf, miss}
-use denote.Enum.Declared
+use lib.Ieee.{Float}
 use Rattle.color_encoding.specs.declared.JxlWhitePoint.{JxlWhitePoint}
 use Rattle.color_encoding.specs.declared.JxlWhitePoint.TheVariants as W
 use Rattle.color_encoding.specs.declared.JxlPrimaries.{JxlPrimaries}
@@ -15,9 +14,6 @@ use Rattle.color_encoding.specs.declared.JxlPrimaries.TheVariants as P
 use Rattle.color_encoding.specs.declared.JxlTransferFunction.{JxlTransferFunction}
 use Rattle.color_encoding.specs.declared.JxlTransferFunction.TheVariants as F
 use Rattle.color_encoding.specs.Codes.{white_point_number, primaries_number, transfer_function_number}
-use Rattle.color_encoding.specs.contracts.JxlWhitePoint as the-white
-use Rattle.color_encoding.specs.contracts.JxlPrimaries as the-primaries
-use Rattle.color_encoding.specs.contracts.JxlTransferFunction as the-transfer
 use Rattle.buffer.specs.Puts.{Puts}
 use Rattle.buffer.specs.PutsLaws.{same, wrote}
 use Rattle.encoding_names.specs.Held.{HeldWhite, HeldPrimaries, HeldTransfer, PutsPart}
@@ -38,21 +34,21 @@ NamedPrimaries p = Named primaries_number HeldPrimaries primaries_name 3 p
 abbrev pub NamedTransfer : JxlTransferFunction → Type 0
 NamedTransfer t = Named transfer_function_number HeldTransfer transfer_name 6 t
 
-pub white_named : (w : JxlWhitePoint) → OneOf (0 ∷ 1 ∷ 2 ∷ []) (Declared.tag_of the-white.the_type w) → NamedWhite w
+pub white_named : (w : JxlWhitePoint) → ((x y : Float) → w ≡ W.Chromaticity x y → ⊥) → NamedWhite w
 unfolding white_name
 white_named W.D65 h = record { known = lit≤ tt; held = tt; three = refl }
 white_named W.E h = record { known = lit≤ tt; held = tt; three = refl }
 white_named W.DCI h = record { known = lit≤ tt; held = tt; three = refl }
-white_named (W.Chromaticity wx wy) h = absurd (miss (0 ∷ 1 ∷ 2 ∷ []) 3 tt h)
+white_named (W.Chromaticity wx wy) h = absurd (h wx wy refl)
 
-pub primaries_named : (p : JxlPrimaries) → OneOf (0 ∷ 1 ∷ 2 ∷ []) (Declared.tag_of the-primaries.the_type p) → NamedPrimaries p
+pub primaries_named : (p : JxlPrimaries) → ((a b c d e f : Float) → p ≡ P.Chromaticities a b c d e f → ⊥) → NamedPrimaries p
 unfolding primaries_name
 primaries_named P.SRGB h = record { known = lit≤ tt; held = tt; three = refl }
 primaries_named P.BT2100 h = record { known = lit≤ tt; held = tt; three = refl }
 primaries_named P.P3 h = record { known = lit≤ tt; held = tt; three = refl }
-primaries_named (P.Chromaticities rx ry gx gy bx by) h = absurd (miss (0 ∷ 1 ∷ 2 ∷ []) 3 tt h)
+primaries_named (P.Chromaticities rx ry gx gy bx by) h = absurd (h rx ry gx gy bx by refl)
 
-pub transfer_named : (t : JxlTransferFunction) → OneOf (0 ∷ 1 ∷ 2 ∷ 3 ∷ 4 ∷ 5 ∷ []) (Declared.tag_of the-transfer.the_type t) → NamedTransfer t
+pub transfer_named : (t : JxlTransferFunction) → ((g : Float) → t ≡ F.Gamma g → ⊥) → NamedTransfer t
 unfolding transfer_name
 transfer_named F.BT709 h = record { known = lit≤ tt; held = tt; three = refl }
 transfer_named F.Linear h = record { known = lit≤ tt; held = tt; three = refl }
@@ -60,7 +56,7 @@ transfer_named F.SRGB h = record { known = lit≤ tt; held = tt; three = refl }
 transfer_named F.PQ h = record { known = lit≤ tt; held = tt; three = refl }
 transfer_named F.DCI h = record { known = lit≤ tt; held = tt; three = refl }
 transfer_named F.HLG h = record { known = lit≤ tt; held = tt; three = refl }
-transfer_named (F.Gamma g) h = absurd (miss (0 ∷ 1 ∷ 2 ∷ 3 ∷ 4 ∷ 5 ∷ []) 6 tt h)
+transfer_named (F.Gamma g) h = absurd (h g refl)
 
 module _ {Variant : Type 0} (Floats : Variant → Type 0) (name : Variant → List ℕ) {l : List ℕ} {at r : ℕ} {out : List ℕ} where
   -- the letters of a name

@@ -1,11 +1,10 @@
 -- A part of a record as the code puts it: the byte of its number, and then its floats or zeros. Assumes nothing.
 use Prim.Native.Nat.{ℕ, ◌+◌, ◌≤◌, ◌<◌}
 use mathlib.Core.Path.{◌≡◌, refl, sym, ap₂}
-use mathlib.Core.List.{List, [], ◌∷◌, ◌++◌, append_assoc}
+use mathlib.Core.List.{List, ◌∷◌, ◌++◌, append_assoc}
 use lib.Dec.{lit<}
 use lib.ListN.{length}
-use types.Run.{OneOf, miss}
-use denote.Enum.Declared
+use lib.Ieee.{Float}
 use Rattle.color_encoding.specs.declared.RenderingIntent.{RenderingIntent}
 use Rattle.color_encoding.specs.declared.RenderingIntent.TheVariants.{Perceptual, Relative, Saturation, Absolute}
 use Rattle.color_encoding.specs.declared.JxlWhitePoint.{JxlWhitePoint}
@@ -16,9 +15,6 @@ use Rattle.color_encoding.specs.declared.JxlTransferFunction.{JxlTransferFunctio
 use Rattle.color_encoding.specs.declared.JxlTransferFunction.TheVariants as F
 use Rattle.color_encoding.specs.Codes.{white_point_number, primaries_number, transfer_function_number}
 use Rattle.color_encoding.specs.Intent.{intent_number}
-use Rattle.color_encoding.specs.contracts.JxlWhitePoint as the-white
-use Rattle.color_encoding.specs.contracts.JxlPrimaries as the-primaries
-use Rattle.color_encoding.specs.contracts.JxlTransferFunction as the-transfer
 use Rattle.buffer.specs.Bytes.{zeros}
 use Rattle.buffer.specs.Puts.{Puts}
 use Rattle.buffer.specs.PutsLaws.{joined}
@@ -65,25 +61,25 @@ intent_byte Relative = lit< tt
 intent_byte Saturation = lit< tt
 intent_byte Absolute = lit< tt
 
--- ---- the floats of a named variant, by the tag that a `match` tells, are zeros
+-- ---- the floats of a named variant, by what a `match` tells, are zeros
 
-pub white_zeros : (w : JxlWhitePoint) → OneOf (0 ∷ 1 ∷ 2 ∷ []) (Declared.tag_of the-white.the_type w) → white_floats w ≡ zeros 8
+pub white_zeros : (w : JxlWhitePoint) → ((x y : Float) → w ≡ W.Chromaticity x y → ⊥) → white_floats w ≡ zeros 8
 white_zeros W.D65 h = refl
 white_zeros W.E h = refl
 white_zeros W.DCI h = refl
-white_zeros (W.Chromaticity wx wy) h = absurd (miss (0 ∷ 1 ∷ 2 ∷ []) 3 tt h)
+white_zeros (W.Chromaticity wx wy) h = absurd (h wx wy refl)
 
-pub primaries_zeros : (p : JxlPrimaries) → OneOf (0 ∷ 1 ∷ 2 ∷ []) (Declared.tag_of the-primaries.the_type p) → primaries_floats p ≡ zeros 24
+pub primaries_zeros : (p : JxlPrimaries) → ((a b c d e f : Float) → p ≡ P.Chromaticities a b c d e f → ⊥) → primaries_floats p ≡ zeros 24
 primaries_zeros P.SRGB h = refl
 primaries_zeros P.BT2100 h = refl
 primaries_zeros P.P3 h = refl
-primaries_zeros (P.Chromaticities rx ry gx gy bx by) h = absurd (miss (0 ∷ 1 ∷ 2 ∷ []) 3 tt h)
+primaries_zeros (P.Chromaticities rx ry gx gy bx by) h = absurd (h rx ry gx gy bx by refl)
 
-pub curve_zeros : (t : JxlTransferFunction) → OneOf (0 ∷ 1 ∷ 2 ∷ 3 ∷ 4 ∷ 5 ∷ []) (Declared.tag_of the-transfer.the_type t) → curve_float t ≡ zeros 4
+pub curve_zeros : (t : JxlTransferFunction) → ((g : Float) → t ≡ F.Gamma g → ⊥) → curve_float t ≡ zeros 4
 curve_zeros F.BT709 h = refl
 curve_zeros F.Linear h = refl
 curve_zeros F.SRGB h = refl
 curve_zeros F.PQ h = refl
 curve_zeros F.DCI h = refl
 curve_zeros F.HLG h = refl
-curve_zeros (F.Gamma g) h = absurd (miss (0 ∷ 1 ∷ 2 ∷ 3 ∷ 4 ∷ 5 ∷ []) 6 tt h)
+curve_zeros (F.Gamma g) h = absurd (h g refl)

@@ -1,5 +1,5 @@
 -- The bytes of a record: how many there are, and what is read back from them. Assumes nothing.
-use Rattle.std.specs.Prelude.{ℕ, ◌+◌, ◌≡◌, refl, List, [], ◌∷◌, ◌++◌, Float, length, drop}
+use Rattle.std.specs.Prelude.{ℕ, ◌≡◌, refl, List, [], ◌∷◌, ◌++◌, Float, length, drop}
 use Rattle.std.proofs.Common.{ap, ap₂, sym, ◌∙◌, append_assoc, add-zero, length-append, drop_at, drop-drop, get_or-drop}
 use Rattle.std.specs.Float.{binary32}
 use Rattle.std.specs.Float.Ieee.{to_bits, of_bits}

@@ -1,6 +1,6 @@
 -- That an accepted file is its plan's layout, what the reader answers to a plan's file under any id, and that each byte of a plan's layout has one owner.
 -- Assumes nothing.
-use Rattle.std.specs.Prelude.{ℕ, ◌+◌, ◌≤◌, ◌≡◌, Bool, true, false, List, [], ◌∷◌, ◌++◌, length}
+use Rattle.std.specs.Prelude.{ℕ, ◌≤◌, ◌≡◌, Bool, true, false, List, [], ◌∷◌, ◌++◌, length}
 use Rattle.std.proofs.Common.{ap, sym, ◌∙◌, subst, ⊎_elim, arith}
 use Rattle.buffer.specs.All.{All, none, more}
 use Rattle.buffer.specs.Bytes.{zeros}
@@ -37,7 +37,7 @@ module _ (f : List ℕ) (p : Plan) where
 
 -- ---- a plan's file under any id
 
-first_after : {cs : List Check} {f : List ℕ} (c : Check) → All (λ (d : Check). Passed d f) cs → ¬ (Passed c f) → FirstFailing f (cs ++ (c ∷ [])) c
+first_after : {f : List ℕ} {cs : List Check} (c : Check) → All (λ (d : Check). Passed d f) cs → ¬ (Passed c f) → FirstFailing f (cs ++ (c ∷ [])) c
 first_after c none h = fails h
 first_after c (more p ps) h = later p (first_after c ps h)
 

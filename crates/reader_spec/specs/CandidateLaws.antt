@@ -14,7 +14,7 @@ use Rattle.buffer.specs.Ascii.{is_ascii}
 use Rattle.buffer.specs.AsciiLaws.{ascii_if, ascii_of}
 use Rattle.buffer.specs.BoolLaws.{true≢false, both, both_left, both_right}
 use Rattle.words.specs.WordsLaws.{bytes_drop, number_fits}
-use Rattle.profile.specs.Elements.{Entry, start, table, body, body_size, file_length, entries, padding}
+use Rattle.profile.specs.Elements.{Entry, start, table, body, body_size, file_length, entries}
 use Rattle.profile.specs.Plan.{Plan, Content, gray, rgb, xyb, kind, max_letters, GoodText, GoodWhite, GoodCicp, GoodContent, Wide}
 use Rattle.profile.specs.PlanLaws.{plan_of_numbers, good_nines, slots_shape}
 use Rattle.profile.specs.Numbers.{plan_of, numbers_with, numbers_for, text_for}

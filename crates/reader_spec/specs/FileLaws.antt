@@ -1,5 +1,5 @@
 -- What reading the regions of a plan's file gives, under any id; and that no two plans share a file. Assumes nothing.
-use Rattle.std.specs.Prelude.{ℕ, ◌+◌, ◌^◌, ◌<◌, ◌≡◌, refl, Bool, true, false, cond, ℤ, pos, negsuc, length, take}
+use Rattle.std.specs.Prelude.{ℕ, ◌^◌, ◌<◌, ◌≡◌, refl, Bool, true, false, cond, ℤ, pos, negsuc, length, take}
 use Rattle.std.proofs.Math.Path.{ap}
 use Rattle.std.proofs.Common.{sym, ◌∙◌, true≢false, arith, length-append, take-append-drop, drop-drop, SFits}
 use mathlib.Core.List.{List, [], ◌∷◌, ◌++◌, append_assoc}

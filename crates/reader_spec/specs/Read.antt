@@ -28,7 +28,7 @@ from_id f =
     by_id (same id (profile_id f)) (same id (zeros id_size)) (plan_in f)
 
 unfoldable pub from_range : List ℕ → Answer
-from_range f = check (Decide.content InRange Decide.in_range (plan_in f).content) c27 (from_id f)
+from_range f = check (Decide.content InRange Decide.in_range_lem (plan_in f).content) c27 (from_id f)
 
 unfoldable pub from_body : List ℕ → Answer
 from_body f = check (Decide.body_is (plan_in f) f) c26 (from_range f)

@@ -157,7 +157,7 @@ module _ (f : List ℕ) (ok21 : RefusalList.Ok21 f) where
 
     from_range_lem : RefusalList.Ok26 f → From f (RefusalList.c27 ∷ RefusalList.c28 ∷ []) (from_range f)
     unfolding from_range
-    from_range_lem a = step f (Decide.content InRange Decide.in_range (plan_in f).content) RefusalList.c27 _ _ (to_27 a) from_27 from_id_lem
+    from_range_lem a = step f (Decide.content InRange Decide.in_range_lem (plan_in f).content) RefusalList.c27 _ _ (to_27 a) from_27 from_id_lem
 
     from_body_lem : RefusalList.Header (kind_from f) f → GoodIntent (varying_of f).intent → From f (RefusalList.c26 ∷ RefusalList.c27 ∷ RefusalList.c28 ∷ []) (from_body f)
     unfolding from_body

@@ -65,7 +65,7 @@ group_fits at n (s ∷ ss) (more h hs) p q = more (record { four = h; offset32 =
 entries_fit : (at : ℕ) (ss : List Elements.Slot) → Fours ss → at + Elements.body_size ss < 2 ^ 32 → All Fits (Elements.entries at ss)
 unfolding Elements.entries Elements.body_size
 entries_fit at [] none h = none
-entries_fit at (s ∷ ss) (more f fs) h = All-append (group_fits at s.size s.signatures f (omega arith) (omega arith)) (entries_fit _ ss fs (omega arith))
+entries_fit at (s ∷ ss) (more f fs) h = All-append (group_fits at s.size s.signatures f (omega arith) (omega arith)) (entries_fit (at + Elements.padded_size s.size) ss fs (omega arith))
 
 -- ---- a file that has this table from byte 128 on, whatever stands before it and after it
 
@@ -143,7 +143,7 @@ unfolding Elements.entries tails
 tails_read f at [] h = refl
 tails_read f at (e ∷ es) h =
     simp (map-append, map-map)
-    (ap₂ ◌++◌ (ap (λ b. map (λ (s : List ℕ). b) e.signatures) h) (tails_read f _ es (next_body f at e es h)))
+    (ap₂ ◌++◌ (ap (λ b. map (λ (s : List ℕ). b) e.signatures) h) (tails_read f (at + Elements.padded_size (length e.bytes)) es (next_body f at e es h)))
 
 -- ---- the whole file, under any header
 

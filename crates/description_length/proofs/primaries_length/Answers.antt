@@ -20,4 +20,4 @@ returns-in-Chromaticities c =
     })
 
 pub returns : goal.returns
-returns c = record { is = sym (primaries_named _ c.in_default.keys2).three; most = lit≤ tt }
+returns c = record { is = sym (primaries_named _ c.in_default.not-Chromaticities).three; most = lit≤ tt }

@@ -20,7 +20,7 @@ module _ (c : After-common_name-name) where
 
 pub returns-then-name-eq0 : goal.returns-then-name-eq0
 returns-then-name-eq0 c =
-    let is : rgb_description _ _ _ _ ≡ text call = described (goal.at.returns-then-name-eq0 c).After-common_name-name ∙ rw (eq-eqb _ 0 c.if-name-eq0.true) in
+    let is : rgb_description _ _ _ _ ≡ text (goal.at.returns-then-name-eq0 c).After-common_name-name = described (goal.at.returns-then-name-eq0 c).After-common_name-name ∙ rw (eq-eqb _ 0 c.if-name-eq0.true) in
     c.rgb_text_length.ensures ∙ ap length (sym is)
 
 pub returns : goal.returns

@@ -11,4 +11,4 @@ unfolding transfer_name
 returns-in-Gamma c = let n = c.number_length-number.ensures in rw c.in-Gamma.is (record { is = omega (arith, n.is); most = omega (arith, n.most) })
 
 pub returns : goal.returns
-returns c = record { is = sym (transfer_named _ c.in_default.keys2).three; most = lit≤ tt }
+returns c = record { is = sym (transfer_named _ c.in_default.not-Gamma).three; most = lit≤ tt }

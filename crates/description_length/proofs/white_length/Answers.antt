@@ -18,4 +18,4 @@ returns-in-Chromaticity c =
     rw c.in-Chromaticity.is (record { is = numbers.is ∙ another-separator _ _; most = numbers.most })
 
 pub returns : goal.returns
-returns c = record { is = sym (white_named _ c.in_default.keys2).three; most = lit≤ tt }
+returns c = record { is = sym (white_named _ c.in_default.not-Chromaticity).three; most = lit≤ tt }

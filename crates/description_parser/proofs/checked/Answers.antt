@@ -14,7 +14,7 @@ use Rattle.description_parser.proofs.checked.Goals as goal
 -- nothing follows: the answer goes by the gamma
 ends : (c : Else-next-text_len) (text : List ℕ) →
     let s = c.args in
-    length text ≡ s.text-len → cond c.zero_gamma-zero.result (refused gamma_is_zero) (is s.encoding) ≡ answer (found s.encoding (drop s.next text))
+    length text ≡ s.text_len → cond c.zero_gamma-zero.result (refused gamma_is_zero) (is s.encoding) ≡ answer (found s.encoding (drop s.next text))
 ends c text e =
     let s = c.args in
     ap (λ (z : Bool). cond z (refused gamma_is_zero) (is s.encoding)) c.zero_gamma-zero.ensures

@@ -34,7 +34,7 @@ module _ (c : After-end_at) where
   whole = text (goal.at.After-end_at c).In-Found
 
   rgb-is : (y : EndAt) → c.end_at.result ≡ y →
-      and_then (mapped {B = RgbFields} (λ q. (((((goal.at.After-end_at c).In-Found).before.white-point.given.0.0, c.in-Found-primaries_at.primaries), q.0), q.1)) (end_at whole y)) rgb_of ≡ rgb whole
+      and_then (mapped {B = RgbFields} (λ q. ((((goal.at.After-end_at c).In-Found.in-Found.white_point, c.in-Found-primaries_at.primaries), q.0), q.1)) (end_at whole y)) rgb_of ≡ rgb whole
   rgb-is y e =
       sym (rgb_ends whole (white-found (goal.at.After-end_at c).In-Found) (primaries-are (goal.at.After-end_at c).After-primaries_at ∙ ap (primaries_at whole) c.in-Found-primaries_at.is)
       (sym c.end_at.ensures ∙ ap (end_at whole) e))

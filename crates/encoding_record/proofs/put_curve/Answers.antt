@@ -12,4 +12,4 @@ returns-in-Gamma c =
 
 pub returns : goal.returns
 returns c =
-    part _ (curve_float c.args.curve) c.number.ensures (curve_zeros c.args.curve c.in_default.keys2) (joined (omega (arith, c.requires)) c.put_number-next.ensures c.put_zeros.ensures)
+    part _ (curve_float c.args.curve) c.number.ensures (curve_zeros c.args.curve c.in_default.not-Gamma) (joined (omega (arith, c.requires)) c.put_number-next.ensures c.put_zeros.ensures)

@@ -17,4 +17,4 @@ returns-in-Chromaticities c =
 
 pub returns : goal.returns
 returns c =
-    part _ (primaries_floats c.args.primaries) c.number.ensures (primaries_zeros c.args.primaries c.in_default.keys2) (joined (omega (arith, c.requires)) c.put_number-red.ensures c.put_zeros.ensures)
+    part _ (primaries_floats c.args.primaries) c.number.ensures (primaries_zeros c.args.primaries c.in_default.not-Chromaticities) (joined (omega (arith, c.requires)) c.put_number-red.ensures c.put_zeros.ensures)

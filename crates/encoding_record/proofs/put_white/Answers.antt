@@ -12,4 +12,4 @@ returns-in-Chromaticity c =
 
 pub returns : goal.returns
 returns c =
-    part _ (white_floats c.args.white) c.number.ensures (white_zeros c.args.white c.in_default.keys2) (joined (omega (arith, c.requires)) c.put_number-next.ensures c.put_zeros.ensures)
+    part _ (white_floats c.args.white) c.number.ensures (white_zeros c.args.white c.in_default.not-Chromaticity) (joined (omega (arith, c.requires)) c.put_number-next.ensures c.put_zeros.ensures)

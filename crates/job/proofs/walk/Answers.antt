@@ -9,17 +9,11 @@ use mathlib.Core.List.{List, [], ◌∷◌}
 use native.Mathlib.Omega.{arith}
 use lib.ListN.{length, take}
 use mathlib.Core.Logic.{inl, inr}
-use types.Run.{OneOf}
-use denote.Enum.Declared.{tag_of}
 use Rattle.buffer.specs.Checked.{Checked, is, each}
 use Rattle.buffer.specs.CheckedLaws.{Passes}
 use Rattle.job.specs.Job.{Entry, sections, cut, meaning, entry_alone, job_answer}
 use Rattle.job.specs.JobLaws.{walk_stops, walk_goes_on, walk_ends}
 use Rattle.job.proofs.walk.Goals as goal
-
--- the arm that goes on is not a refusal's
-refused-tag : {a : EntryAnswer} {k : ℕ} → a ≡ Refused k → OneOf (0 ∷ 1 ∷ []) (tag_of Form.the_type a) → ⊥
-refused-tag {a} {k} e h = elim (subst (λ (x : EntryAnswer). OneOf (0 ∷ 1 ∷ []) (tag_of Form.the_type x)) e h) [ inl z ↦ omega arith | inr z ↦ omega arith ]
 
 is_one : {a b : List Entry} → ◌≡◌ {A = Checked (List Entry)} (is a) (is b) → a ≡ b
 is_one e = cc
@@ -34,7 +28,7 @@ pub loop-i-preserved : goal.loop-i-preserved
 loop-i-preserved c =
     let l = c.args.job.now in
     let i = c.loop-i.i in
-    let not-refused : (k : ℕ) → entry_alone (cut 1 sections l) i ≡ Refused k → ⊥ = λ k e. refused-tag (c.entry_alone.ensures.answer ∙ e) c.in_default.keys2 in
+    let not-refused : (k : ℕ) → entry_alone (cut 1 sections l) i ≡ Refused k → ⊥ = λ k e. c.in_default.not-Refused k (c.entry_alone.ensures.answer ∙ e) in
     (omega arith, λ es cuts. rw (add-one i) (walk_goes_on 1 l es cuts i (omega (arith, c.requires.size, ap length (is_one (sym c.requires.given ∙ cuts)))) not-refused (c.loop-i.invariant.1 es cuts)))
 
 pub returns : goal.returns
