@@ -13,7 +13,6 @@ use Rattle.std.proofs.Math.ListN.{take, drop, length-append, length-drop}
 use Rattle.std.proofs.lemmas.List.{get_or-replicate}
 use Rattle.std.proofs.Math.Seq.{drop-drop}
 use Rattle.buffer.specs.BoolLaws.{both_left, both_right, and_assoc, true≢false}
-use Rattle.buffer.specs.Checked.{is}
 use Rattle.words.specs.Words.{word16}
 use Rattle.words.specs.WordsLaws.{bytes_drop, word16_lt}
 use Rattle.reader_spec.specs.FitsLaws.{Bytes}

@@ -1,5 +1,5 @@
 -- The loop's invariant: what was passed and where its data stands (`Walking`). The measure is what is left of the buffer. Assumes nothing.
-use Prim.Native.Nat.{ℕ, ◌+◌, ◌-◌, ◌≤◌, ◌<◌}
+use Prim.Native.Nat.{ℕ, ◌<◌}
 use mathlib.Core.Path.{◌≡◌, ap, sym, ◌∙◌}
 use mathlib.Core.List.{List}
 use native.Mathlib.Omega.{arith}
@@ -9,7 +9,7 @@ use Rattle.words.specs.Words.{word16}
 use Rattle.words.specs.WordsLaws.{from_on}
 use Rattle.app2.specs.Joining.{stated, first}
 use Rattle.segments_finder.specs.Found.{begins_new}
-use Rattle.segments_finder.specs.WalkingLaws.{walk, most, near, not_new, New, new_parts, ends, has_place, onward, wrong_number, finds_all, finds_none}
+use Rattle.segments_finder.specs.WalkingLaws.{walk, most, near, not_new, New, new_parts, onward, wrong_number, finds_all, finds_none}
 use Rattle.segments_finder.proofs.find_segments.Goals.{After-begins_new, After-byte_at, After-read_u16_be, Else-not-begins_new}
 use Rattle.segments_finder.proofs.find_segments.Goals as goal
 
