@@ -24,7 +24,6 @@ use Rattle.encoding_plan.proofs.gray_plan.Goals.{After-white_numbers-numbers, El
 use Rattle.encoding_plan.proofs.gray_plan.Goals as goal
 
 module _ (c : After-white_numbers-numbers) where
-
   curve-known : supported c.args.transfer ≡ is c.in-Curve.named_or_gamma
   curve-known = sym c.supported.ensures ∙ ap checked_support c.in-Curve.is
 

@@ -19,7 +19,6 @@ use Rattle.encoding_plan.proofs.rgb_plan.Goals.{After-chad_numbers-chad, After-c
 use Rattle.encoding_plan.proofs.rgb_plan.Goals as goal
 
 module _ (c : After-chad_numbers-chad) where
-
   curve-known : supported c.args.transfer ≡ is c.in-Curve.named_or_gamma
   curve-known = sym c.supported.ensures ∙ ap checked_support c.in-Curve.is
 
@@ -34,7 +33,6 @@ chad-kept : (c : Else-chad-ne0) → let n = c.chad_numbers-chad.result in
 chad-kept c = sym (simp (eq-eqb _ 0 c.if-chad-ne0.false)) ∙ chad_is (goal.at.Else-chad-ne0 c).After-chad_numbers-chad
 
 module _ (c : After-column_numbers-columns) where
-
   abbrev primaries : PrimariesXy
   primaries = primaries_xy c.args.primaries
 
