@@ -5,10 +5,5 @@ pub mod Permutation
 pub mod Properties
 pub mod CutLaws
 pub mod ParseLaws
-pub mod JoinLaws
-pub mod ChecksLaws
-pub mod SegmentsLaws
 pub mod TakeLaws
-pub mod RoundTrip
-pub mod AnswerNumbers
 pub mod SegmentExamples

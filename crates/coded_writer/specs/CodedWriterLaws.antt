@@ -9,7 +9,7 @@ use Rattle.encoding_plan.specs.declared.Encoding.{Encoding}
 use Rattle.writer.specs.Writer.{number, count_after, profile_by, Creates, MeasuresProfile}
 use Rattle.writer.specs.WriterLaws.{any_device}
 use Rattle.writer.specs.declared.Profile.{Profile}
-use Rattle.writer_laws.specs.RefusalNumbers.{answer_told}
+use Rattle.writer_laws.proofs.RefusalNumbers.{answer_told}
 use Rattle.coded_writer.specs.CodedWriter.{coded, mark_from, coded_by, code_answer, WritesCode, MeasuresCode, WritesCounted, MeasuresCounted}
 
 -- ---- the number of the mark

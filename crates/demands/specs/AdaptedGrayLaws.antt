@@ -39,9 +39,9 @@ use Rattle.writer_laws.specs.RefusalList.{Check, c1, c3, c4, c5, c6, c7, c8, c9,
 use Rattle.writer_laws.specs.WriterAnswers.{writer_answers}
 use Rattle.reader_spec.specs.RefusalList.{accepted}
 use Rattle.reader_spec.specs.Read.{read}
-use Rattle.reader_spec.specs.Accepts.{accepts_exactly}
+use Rattle.reader_spec.proofs.Accepts.{accepts_exactly}
 use Rattle.reader_spec.specs.Finder.{is_among, element_under, find}
-use Rattle.reader_spec.specs.Finds.{finds}
+use Rattle.reader_spec.proofs.Finds.{finds}
 use Rattle.reading.specs.Reading.{adapted_number, reading}
 use Rattle.reading.specs.declared.Reading.{Reading}
 use Rattle.coded_writer.specs.CodedWriter.{coded, coded_by, WritesCounted, MeasuresCounted}

@@ -21,7 +21,7 @@ use Rattle.writer.specs.Writer.{answer, max_written, too_short}
 use Rattle.writer.specs.WriterLaws.{any_device}
 use Rattle.writer.specs.declared.Profile.TheVariants.{Written, Refused}
 use Rattle.writer_laws.specs.RefusalList.{Ok1, Ok8, Ok9}
-use Rattle.writer_laws.specs.WrittenLength.{written_length}
+use Rattle.writer_laws.proofs.WrittenLength.{written_length}
 use Rattle.demands.specs.Demand2Laws.{valid_if, named, has_plan, has_room, written, gray_planned, gray_plan_if, gray_refused, rgb_planned, rgb_plan_if, rgb_refused, xyb_planned, xyb_valid, xyb_answered, xyb_refused}
 
 -- ---- the conditions; those that the refusal list names too are its own: 1, that the curve is neither PQ nor HLG, and 9, that the output is not shorter than

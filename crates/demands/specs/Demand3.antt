@@ -20,7 +20,7 @@ use Rattle.reader_spec.specs.FileLaws.{computed_exists}
 use Rattle.reader_spec.specs.RefusalList.{Check, FirstFailing, checks, number}
 use Rattle.reader_spec.specs.Read.{read}
 use Rattle.reader_spec.specs.Owners.{Owned}
-use Rattle.reader_spec.specs.Accepts as Accepts
+use Rattle.reader_spec.proofs.Accepts as Accepts
 use Rattle.reading.specs.Reading.{reading}
 use Rattle.reading.specs.declared.Reading.{Reading}
 use Rattle.plan_record.specs.PlanRecord.{record_size, reading_by}

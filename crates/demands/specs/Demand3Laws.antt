@@ -16,9 +16,9 @@ use Rattle.reader_spec.specs.Exists.{Exists}
 use Rattle.reader_spec.specs.RefusalList.{Answer, Answers, Check, FirstFailing, checks, refused, accepted, refuses as by-list, number}
 use Rattle.reader_spec.specs.RefusalListLaws.{number_bounds}
 use Rattle.reader_spec.specs.Read.{read}
-use Rattle.reader_spec.specs.ReadAnswers.{read_answers, read_is}
+use Rattle.reader_spec.proofs.ReadAnswers.{read_answers, read_is}
 use Rattle.reader_spec.specs.Owners.{Owned}
-use Rattle.reader_spec.specs.Accepts.{accepts_exactly, accepted_owned}
+use Rattle.reader_spec.proofs.Accepts.{accepts_exactly, accepted_owned}
 use Rattle.reading.specs.Reading.{reading}
 use Rattle.reading.specs.declared.Reading.{Reading}
 use Rattle.plan_record.specs.PlanRecord.{record_size, plan_record, reading_by}

@@ -15,10 +15,10 @@ use Rattle.reader_spec.specs.Table.{varying_of}
 use Rattle.reader_spec.specs.FileLaws.{varying_layout, valid_wide, mark_valid, computed_exists}
 use Rattle.reader_spec.specs.RefusalList.{accepted, refused, c28}
 use Rattle.reader_spec.specs.Read.{read}
-use Rattle.reader_spec.specs.Accepts.{accepts_exactly}
-use Rattle.reader_spec.specs.AcceptsLaws.{reads_correct, reads_zeros, reads_28}
+use Rattle.reader_spec.proofs.Accepts.{accepts_exactly}
+use Rattle.reader_spec.proofs.AcceptsLaws.{reads_correct, reads_zeros, reads_28}
 use Rattle.reader_spec.specs.Finder.{find}
-use Rattle.reader_spec.specs.Finds.{finds}
+use Rattle.reader_spec.proofs.Finds.{finds}
 use Rattle.reading.specs.Reading.{reading}
 use Rattle.reading.specs.declared.Reading.{Reading}
 use Rattle.demands.specs.Told.{told}

@@ -11,7 +11,7 @@ use Rattle.app2.specs.Segments.{Segment, bytes, segments}
 use Rattle.app2.specs.Permutation.{Permutation}
 use Rattle.app2.specs.App2 as App2
 use Rattle.app2.specs.App2.{number, answer, max_data, written_segments, joined_file}
-use Rattle.app2.specs.RoundTrip.{round_trip, joins_back, joined_is}
+use Rattle.app2.proofs.RoundTrip.{round_trip, joins_back, joined_is}
 use Rattle.host.specs.Host.{GivesNumber}
 use Rattle.demands.specs.SegmentsInCLaws.{wrote, refused_with_lem, put_parts}
 

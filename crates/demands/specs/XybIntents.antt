@@ -16,7 +16,7 @@ use Rattle.encoding_plan.specs.declared.Encoding.{Encoding}
 use Rattle.writer.specs.Writer.{answer, Creates}
 use Rattle.writer.specs.WriterLaws.{any_device}
 use Rattle.writer.specs.declared.Profile.TheVariants.{Written, Refused}
-use Rattle.writer_laws.specs.RefusalNumbers as RefusalNumbers
+use Rattle.writer_laws.proofs.RefusalNumbers as RefusalNumbers
 use Rattle.reader_spec.specs.Table.{varying_of}
 use Rattle.reader_spec.specs.RefusalList.{accepted, refused, c24, c26}
 use Rattle.reader_spec.specs.Read.{read}

@@ -41,8 +41,8 @@ use Rattle.reader_spec.specs.FileLaws.{header_varying, small, computed_exists}
 use Rattle.reader_spec.specs.RefusalList.{Header, Ok21, Ok22, Ok23, Ok24, Ok25, Ok26, FirstFailing, checks, Answers, accepted, refused, refuses, c24, c26}
 use Rattle.reader_spec.specs.Read.{read}
 use Rattle.reader_spec.specs.ReadLaws.{kind_is}
-use Rattle.reader_spec.specs.ReadAnswers.{read_answers, read_is}
-use Rattle.reader_spec.specs.Accepts.{accepts_exactly}
+use Rattle.reader_spec.proofs.ReadAnswers.{read_answers, read_is}
+use Rattle.reader_spec.proofs.Accepts.{accepts_exactly}
 use Rattle.reading.specs.Reading.{reading}
 use Rattle.reading.specs.declared.Reading.{Reading}
 use Rattle.demands.specs.Told.{told}

@@ -7,5 +7,4 @@ pub mod Distance
 pub mod ClosestLaws
 pub mod RoundLaws
 pub mod NearestLaws
-pub mod Reads
 pub mod TypedTexts

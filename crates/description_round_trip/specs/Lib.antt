@@ -1,11 +1,6 @@
 pub mod TwoDigits
 pub mod AsRead
-pub mod PrintedFloatLaws
-pub mod PrintedPartLaws
 pub mod CommonNameLaws
 pub mod ClosestLaws
 pub mod SameDecimalsLaws
 pub mod SameDescriptionLaws
-pub mod InLanguageLaws
-pub mod RoundTripLaws
-pub mod RoundTrip

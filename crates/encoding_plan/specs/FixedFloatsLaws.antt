@@ -14,7 +14,7 @@ use Rattle.color_encoding.specs.declared.JxlColorEncoding.TheVariants.{RgbColorS
 use Rattle.numbers.specs.Rounded.{rounded_in}
 use Rattle.numbers.specs.RoundedLaws.{rounded_in_append}
 use Rattle.xyb_constants.specs.XybNumbers as Xyb
-use Rattle.xyb_constants.specs.XybNumbersLaws.{fixed_floats_count}
+use Rattle.xyb_constants.proofs.XybNumbersLaws.{fixed_floats_count}
 use Rattle.profile.specs.FixedConstants.{d50_floats, d50_count}
 use Rattle.encoding_curve.specs.CurveOf.{supported, curve_floats}
 use Rattle.encoding_curve.specs.declared.SupportedCurve.{SupportedCurve}

@@ -21,8 +21,8 @@ use Rattle.encoding_plan.specs.FixedFloats.{fixed_floats, counted_plan}
 use Rattle.writer.specs.Writer.{answer, output, max_written}
 use Rattle.writer.specs.declared.Profile.{Profile}
 use Rattle.writer.specs.declared.Profile.TheVariants as P
-use Rattle.writer_laws.specs.WrittenLength.{written_length}
-use Rattle.writer_laws.specs.RefusalNumbers.{refusal_number_lem}
+use Rattle.writer_laws.proofs.WrittenLength.{written_length}
+use Rattle.writer_laws.proofs.RefusalNumbers.{refusal_number_lem}
 use Rattle.job.specs.declared.JobEntry.{JobEntry}
 use Rattle.job.specs.declared.JobAnswer.{JobAnswer}
 use Rattle.job.specs.declared.JobAnswer.TheVariants as A

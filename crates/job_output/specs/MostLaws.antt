@@ -12,8 +12,8 @@ use Rattle.profile.specs.Plan.{Plan}
 use Rattle.profile.specs.Layout.{layout}
 use Rattle.encoding_plan.specs.PlanOf.{plan_of}
 use Rattle.encoding_plan.specs.FixedFloats.{fixed_floats, counted_plan}
-use Rattle.writer_laws.specs.WrittenLength.{written_length}
-use Rattle.writer_laws.specs.RefusalNumbers.{refusal_number_lem}
+use Rattle.writer_laws.proofs.WrittenLength.{written_length}
+use Rattle.writer_laws.proofs.RefusalNumbers.{refusal_number_lem}
 use Rattle.job.specs.Bounds.{EntryBounds}
 use Rattle.job.specs.declared.JobEntry.{JobEntry}
 use Rattle.entry_output.specs.EntryOutput.{enough, length_or_refusal, entry_line, part_of}

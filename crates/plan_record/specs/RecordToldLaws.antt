@@ -23,7 +23,7 @@ use Rattle.profile.specs.declared.Cicp.{Cicp}
 use Rattle.profile.specs.declared.Cicp.TheVariants.{Absent, Primaries}
 use Rattle.reader_spec.specs.RefusalList.{Answer, refused, accepted}
 use Rattle.reader_spec.specs.Read.{read}
-use Rattle.reader_spec.specs.Accepts.{accepts_exactly}
+use Rattle.reader_spec.proofs.Accepts.{accepts_exactly}
 use Rattle.reader_spec.specs.FileLaws.{valid_wide}
 use Rattle.reading.specs.Reading.{kind_number, name_number, curve_number, gamma_number, cicp_number, text_array, reading}
 use Rattle.reading.specs.declared.Reading.{Reading}

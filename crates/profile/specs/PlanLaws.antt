@@ -6,7 +6,7 @@ use Rattle.std.proofs.Math.Bool.{true, false}
 use native.Mathlib.Omega.{arith}
 use Rattle.buffer.specs.All.{All, none, more}
 use Rattle.color_encoding.specs.IntentLaws.{length-intent_name}
-use Rattle.xyb_constants.specs.XybNumbersLaws.{length-chad}
+use Rattle.xyb_constants.proofs.XybNumbersLaws.{length-chad}
 use Rattle.profile.specs.Signatures as Sig
 use Rattle.profile.specs.Elements.{Element, slot, padding, start, body_size, tag_count, file_length}
 use Rattle.profile.specs.ElementsLaws.{Four, Fours}

@@ -4,7 +4,7 @@ use Rattle.std.proofs.Common.{ap, ◌∙◌, arith, length-append, length-drop, 
 use Rattle.words.specs.Words.{be16, be32, twos_complement32}
 use Rattle.words.specs.WordsLaws.{length-be16, length-be32}
 use Rattle.xyb_constants.specs.XybNumbers.{m_curves}
-use Rattle.xyb_constants.specs.XybNumbersLaws as XybNumbers
+use Rattle.xyb_constants.proofs.XybNumbersLaws as XybNumbers
 use Rattle.profile.specs.Elements.{padded, padded_size}
 use Rattle.profile.specs.ElementsLaws.{length-padded, padded_whole}
 use Rattle.profile.specs.TagTypes

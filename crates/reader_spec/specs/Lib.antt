@@ -15,14 +15,8 @@ pub mod Tests
 pub mod TestsLaws
 pub mod Read
 pub mod ReadLaws
-pub mod ReadAnswers
 pub mod Owners
-pub mod OwnersLaws
-pub mod Accepts
-pub mod AcceptsLaws
 pub mod Finder
-pub mod FinderLaws
-pub mod Finds
 pub mod Steps
 pub mod StepsLaws
 pub mod ShapeLaws

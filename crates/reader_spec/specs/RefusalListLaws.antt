@@ -118,7 +118,7 @@ module _ (N : ℤ → Type 0) (p : Plan) (g : Good N p) (id : List ℕ) (sixteen
         body = body_with_id N p g id sixteen;
       }
 
-abbrev AllPassed : List ℕ → List RefusalList.Check → Type 0
+abbrev pub AllPassed : List ℕ → List RefusalList.Check → Type 0
 AllPassed f = All (λ (c : RefusalList.Check). RefusalList.Passed c f)
 
 -- those before the check of the id, whatever stands in its place
@@ -141,7 +141,7 @@ passes_before p v id sixteen =
     let a7 : RefusalList.Ok27 f = record { plan = p; valid = v; has = h } in
     more a1 (more a2 (more a3 (more a4 (more a5 (more a6 (more a7 none))))))
 
-passes_id : (p : Plan) → Wide p → RefusalList.Ok28 (layout p)
+pub passes_id : (p : Plan) → Wide p → RefusalList.Ok28 (layout p)
 passes_id p w =
     let stands : (varying_of (layout p)).id ≡ id_for p = ap (λ v. v.id) (varying_layout p w) in
     let correct : profile_id (layout p) ≡ computed_id p = unfold layout in any_id p (id_for p) (length-id_for p) in
@@ -150,19 +150,3 @@ passes_id p w =
     either : (m : Bool) → (cond m (zeros 16) (computed_id p) ≡ computed_id p) ⊎ (cond m (zeros 16) (computed_id p) ≡ zeros 16)
     either true = inr refl
     either false = inl refl
-
-passes : (p : Plan) → Exists p → AllPassed (layout p) RefusalList.checks
-passes p v =
-    let before : AllPassed (layout p) before_id = unfold layout in passes_before p v.valid (id_for p) (length-id_for p) in
-    All-append before (more (passes_id p (valid_wide p v.valid)) none)
-
--- ---- there is one answer at most
-
-not-both : {f : List ℕ} {c : RefusalList.Check} (p : Plan) → Exists p → layout p ≡ f → RefusalList.FirstFailing f RefusalList.checks c → ⊥
-not-both p v e s = first_not_all s (subst (λ f. AllPassed f RefusalList.checks) e (passes p v))
-
-pub answer_unique : (f : List ℕ) (a b : RefusalList.Answer) → RefusalList.Answers f a → RefusalList.Answers f b → a ≡ b
-answer_unique f a b (RefusalList.refuses s) (RefusalList.refuses t) = ap RefusalList.refused (first_unique s t)
-answer_unique f a b (RefusalList.refuses s) (RefusalList.accepts q w e) = absurd (not-both q w e s)
-answer_unique f a b (RefusalList.accepts p v d) (RefusalList.refuses t) = absurd (not-both p v d t)
-answer_unique f a b (RefusalList.accepts p v d) (RefusalList.accepts q w e) = ap RefusalList.accepted (layout_injective p q v w (d ∙ sym e))

@@ -20,8 +20,8 @@ use Rattle.app2.specs.Segments.{Segment}
 use Rattle.app2.specs.Joining.{stated, begins, first, rest, before, parse, times, each_once, counts, complete, chunk_of}
 use Rattle.app2.specs.App2.{max_segments}
 use Rattle.app2.specs.ParseLaws.{parse_nothing, parse_step, begins_parts}
-use Rattle.app2.specs.JoinLaws.{Complete, complete_parts, complete_whole}
-use Rattle.app2.specs.ChecksLaws.{Incomplete, complete_of, complete_not}
+use Rattle.app2.proofs.JoinLaws.{Complete, complete_parts, complete_whole}
+use Rattle.app2.proofs.ChecksLaws.{Incomplete, complete_of, complete_not}
 use Rattle.segments_finder.specs.Found.{HasData, Found, Finds, begins_new}
 use Rattle.segments_finder.specs.InsideLaws.{inside, times_append, inside_append, times_one, times_other, outside_one, inside_one, inside_none, inside_most, inside_once, inside_bound, once_inside, once_at}
 

@@ -20,7 +20,7 @@ use Rattle.white_point.specs.GrayWhiteLaws.{gray_white_lem}
 use Rattle.adaptation.specs.Adapt.{chad_matrix}
 use Rattle.colorimetry.specs.Primaries.{create_icc_rgb_matrix}
 use Rattle.xyb_constants.specs.XybNumbers as Xyb
-use Rattle.xyb_constants.specs.XybNumbersLaws as XybLaws
+use Rattle.xyb_constants.proofs.XybNumbersLaws as XybLaws
 use Rattle.profile.specs.Plan.{Plan, GrayWhite, unadapted, adapted, Content, gray, rgb, xyb, InRange}
 use Rattle.profile.specs.PlanLaws.{WhiteNines, Nines, white_nines}
 use Rattle.profile.specs.Layout.{D50}

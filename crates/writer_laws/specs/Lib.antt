@@ -1,13 +1,11 @@
 pub mod PlanLaws
 pub mod PlanValid
 pub mod WrittenLengthLaws
-pub mod WrittenLength
 pub mod RefusalList
 pub mod RefusalListLaws
 pub mod WriterAnswersLaws
 pub mod WriterAnswers
 pub mod RefusalNumbersLaws
-pub mod RefusalNumbers
 pub mod FileNumbers
 pub mod FileNumbersLaws
 pub mod NumbersOfFloats

@@ -103,7 +103,7 @@ module _ (w : JxlWhitePoint) (p : JxlPrimaries) (i : RenderingIntent) (r : InRan
       → length (description (RgbColorSpace w p t i)) ≤ most_letters c
   named_most t n l h e = rw (← named_curve n e f) (named_letters w p t i r h.1.0 l)
 
-  rgb_letters : (t : JxlTransferFunction) → HeldEncoding (RgbColorSpace w p t i) → supported t ≡ is s → length (description (RgbColorSpace w p t i)) ≤ most_letters c
+  pub rgb_letters : (t : JxlTransferFunction) → HeldEncoding (RgbColorSpace w p t i) → supported t ≡ is s → length (description (RgbColorSpace w p t i)) ≤ most_letters c
   unfolding transfer_name
   rgb_letters F.BT709 h e = named_most F.BT709 Name.BT709 refl h e
   rgb_letters F.Linear h e = named_most F.Linear Name.Linear refl h e
@@ -115,41 +115,18 @@ module _ (w : JxlWhitePoint) (p : JxlPrimaries) (i : RenderingIntent) (r : InRan
 
 -- ---- the lengths of the files
 
-gray_most : (n : ℕ) (g a : Bool) → n ≤ max_letters → file_length (slots_of (record { kind = Gray; letters = n; gamma = g; cicp = false; adapted = a })) ≤ max_written
+pub gray_most : (n : ℕ) (g a : Bool) → n ≤ max_letters → file_length (slots_of (record { kind = Gray; letters = n; gamma = g; cicp = false; adapted = a })) ≤ max_written
 unfolding slots_of file_length start body_size tag_count padding
 gray_most n true true h = omega arith
 gray_most n true false h = omega arith
 gray_most n false true h = omega arith
 gray_most n false false h = omega arith
 
-gamma_most : (n : ℕ) → n ≤ max_letters → file_length (slots_of (record { kind = Rgb; letters = n; gamma = true; cicp = false; adapted = false })) ≤ max_written
+pub gamma_most : (n : ℕ) → n ≤ max_letters → file_length (slots_of (record { kind = Rgb; letters = n; gamma = true; cicp = false; adapted = false })) ≤ max_written
 unfolding slots_of file_length start body_size tag_count padding
 gamma_most n h = omega arith
 
-named_file : (n : ℕ) (v : Bool) → n ≤ 326 → file_length (slots_of (record { kind = Rgb; letters = n; gamma = false; cicp = v; adapted = false })) ≤ max_written
+pub named_file : (n : ℕ) (v : Bool) → n ≤ 326 → file_length (slots_of (record { kind = Rgb; letters = n; gamma = false; cicp = v; adapted = false })) ≤ max_written
 unfolding slots_of file_length start body_size tag_count padding
 named_file n true h = omega arith
 named_file n false h = omega arith
-
-rgb_most : (w : JxlWhitePoint) (p : JxlPrimaries) (n : ℕ) (c : Curve) → n ≤ most_letters c
-    → file_length (slots_of (record { kind = Rgb; letters = n; gamma = is_gamma c; cicp = has_cicp (cicp_of w p c); adapted = false })) ≤ max_written
-rgb_most w p n (Named m) h = named_file n (has_cicp (cicp_of w p (Named m))) h
-rgb_most w p n (Gamma g) h = gamma_most n h
-
--- ---- every encoding
-
-pub at_most : (a : Bool) (e : JxlColorEncoding) → HeldEncoding e → {p : Plan} → color_plan a e ≡ is p → length (layout p) ≤ max_written
-unfolding color_plan slots_of file_length start body_size tag_count padding
-at_most a (GrayscaleColorSpace w t i) held {p} e =
-    let g = gray_parts a w t i e in
-    let nines = white_nines NumberInRange g.white (white_good a (white_xy w) g.white_is) in
-    rw (← g.plan_is, length-layout (gray_plan (GrayscaleColorSpace w t i) i g.curve g.white) nines)
-    (gray_most (length (description (GrayscaleColorSpace w t i))) (is_gamma g.curve) (is_adapted g.white) (length-in_range (GrayscaleColorSpace w t i) held tt))
-at_most a (RgbColorSpace w q t i) held {p} e =
-    let g = rgb_parts a w q t i e in
-    let plan = rgb_plan (RgbColorSpace w q t i) i g.curve (cicp_of w q g.curve) g.chad g.columns in
-    rw (← g.plan_is, length-layout plan (chad_nine (white_xy w) g.chad_is, columns_nine (primaries_xy q) (white_xy w) g.columns_are))
-    (rgb_most w q (length (description (RgbColorSpace w q t i))) g.curve (rgb_letters w q i (white_in_range_lem w g.chad_is) g.curve_is t held g.support_is))
-at_most a (XYB i) held {p} e =
-    let same : xyb_plan i ≡ p = cc in
-    rw (← same, length-layout (xyb_plan i) tt) (lit≤ tt)

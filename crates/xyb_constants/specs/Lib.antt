@@ -1,4 +1,3 @@
 pub mod XybConstants
 pub mod XybNumbers
-pub mod XybNumbersLaws
 pub mod CubeRoot

@@ -5,7 +5,7 @@ use native.Mathlib.Omega.{arith}
 use lib.ListN.{take, drop, length-drop}
 use lib.Seq.{take_all}
 use lib.IntN.{ℤ}
-use Rattle.xyb_constants.specs.XybNumbersLaws.{length-m_curves}
+use Rattle.xyb_constants.proofs.XybNumbersLaws.{length-m_curves}
 use Rattle.xyb_constants.specs.XybNumbers as XybNumbers
 use Rattle.profile.specs.TagTypes.{join, para}
 use Rattle.profile.specs.Xyb

@@ -1,6 +1,6 @@
 -- The number of what `join_segments` answers. Assumes nothing.
 use borrow.Author.Rules.{rules}
-use Rattle.app2.specs.AnswerNumbers.{joined_told}
+use Rattle.app2.proofs.AnswerNumbers.{joined_told}
 use Rattle.host.specs.HostLaws.{number_given}
 use Rattle.host.proofs.merqyduk_join_segments.Statement.{statement}
 use Rattle.host.proofs.merqyduk_join_segments.Tie as tie

@@ -1,6 +1,6 @@
 -- The number of what `write_segments` answers. Assumes nothing.
 use borrow.Author.Rules.{rules}
-use Rattle.app2.specs.AnswerNumbers.{written_told}
+use Rattle.app2.proofs.AnswerNumbers.{written_told}
 use Rattle.host.specs.HostLaws.{number_given}
 use Rattle.host.proofs.merqyduk_write_segments.Statement.{statement}
 use Rattle.host.proofs.merqyduk_write_segments.Tie as tie

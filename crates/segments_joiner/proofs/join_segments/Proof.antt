@@ -11,7 +11,7 @@ use Rattle.reader_spec.specs.Read.{read}
 use Rattle.reading.specs.Reading.{reading}
 use Rattle.app2.specs.Joining.{joined}
 use Rattle.app2.specs.App2.{accepted_file, joined_file}
-use Rattle.app2.specs.ChecksLaws.{by_refusal, by_zero, accepted_bounds, gives_refusal, gives_bytes, joined_54, joined_55, joined_fitting}
+use Rattle.app2.proofs.ChecksLaws.{by_refusal, by_zero, accepted_bounds, gives_refusal, gives_bytes, joined_54, joined_55, joined_fitting}
 use Rattle.segments_finder.specs.Found.{Found}
 use Rattle.segments_joiner.specs.Data.{data_of}
 use Rattle.segments_joiner.specs.GatheringLaws.{data_joined, whole_front, filled_front}

@@ -11,7 +11,7 @@ use Rattle.profile.specs.Elements.{Entry}
 use Rattle.reader_spec.specs.Table.{tags_of, entries_of, absent}
 use Rattle.reader_spec.specs.Finder.{line_of}
 use Rattle.reader_spec.specs.LinesLaws.{from_first, line_in_lem}
-use Rattle.reader_spec.specs.FinderLaws.{line_is, line_later, line_none}
+use Rattle.reader_spec.proofs.FinderLaws.{line_is, line_later, line_none}
 use Rattle.table_lines.proofs.line_of.Goals.{After-same_bytes}
 use Rattle.table_lines.proofs.line_of.Goals as goal
 

@@ -1,6 +1,6 @@
 -- The stored table is the computed one.
 use mathlib.Core.Path.{sym}
-use Rattle.xyb_constants.specs.XybNumbersLaws.{clut_is}
+use Rattle.xyb_constants.proofs.XybNumbersLaws.{clut_is}
 use Rattle.xyb_constants.proofs.clut.Goals as goal
 
 pub returns : goal.returns

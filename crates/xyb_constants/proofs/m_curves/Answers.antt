@@ -1,6 +1,6 @@
 -- The stored table is the computed one.
 use mathlib.Core.Path.{sym}
-use Rattle.xyb_constants.specs.XybNumbersLaws.{m_curves_is}
+use Rattle.xyb_constants.proofs.XybNumbersLaws.{m_curves_is}
 use Rattle.xyb_constants.proofs.m_curves.Goals as goal
 
 pub returns : goal.returns

@@ -9,7 +9,7 @@ use Rattle.profile.specs.Shape.{first_slots}
 use Rattle.profile.specs.RunsLaws.{next, done, run}
 use Rattle.profile.specs.Numbers.{content_by}
 use Rattle.profile.specs.PlanLaws.{length-xyb_text}
-use Rattle.xyb_constants.specs.XybNumbersLaws.{length-chad}
+use Rattle.xyb_constants.proofs.XybNumbersLaws.{length-chad}
 use Rattle.profile.specs.declared.Kind.TheVariants.{Xyb}
 use Rattle.layout.proofs.KindParts.{xyb_size, xyb_parts, length-elements}
 use Rattle.layout.proofs.kinds.put_xyb_elements.Goals.{After-xyb_text-letters, Start}

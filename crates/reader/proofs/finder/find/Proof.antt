@@ -5,7 +5,7 @@ use native.Mathlib.Omega.{arith}
 use borrow.Author.Rules.{rules}
 use Rattle.reader_spec.specs.Table.{element_at}
 use Rattle.reader_spec.specs.Finder.{find}
-use Rattle.reader_spec.specs.FinderLaws.{found_within}
+use Rattle.reader_spec.proofs.FinderLaws.{found_within}
 use Rattle.reader.proofs.finder.find.Statement.{statement}
 use Rattle.reader.proofs.finder.find.Tie as tie
 

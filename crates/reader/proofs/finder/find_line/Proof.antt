@@ -7,7 +7,7 @@ use Rattle.profile.specs.Elements.{Entry}
 use Rattle.profile.specs.Plan.{Plan}
 use Rattle.reader_spec.specs.RefusalList.{accepted}
 use Rattle.reader_spec.specs.Read.{read}
-use Rattle.reader_spec.specs.FinderLaws.{found_refused, found_accepted, table_within}
+use Rattle.reader_spec.proofs.FinderLaws.{found_refused, found_accepted, table_within}
 use Rattle.reader.proofs.Answered.{was_refused, was_accepted}
 use Rattle.reader.proofs.finder.find_line.Statement.{statement}
 use Rattle.reader.proofs.finder.find_line.Tie as tie

@@ -22,7 +22,7 @@ use Rattle.description_parser.specs.Parse as Parse
 use Rattle.description_laws.specs.EncodingLaws.{encoding_exact}
 use Rattle.description_round_trip.specs.TwoDigits.{FloatsTwoDigits}
 use Rattle.description_round_trip.specs.AsRead.{encoding_as_read}
-use Rattle.description_round_trip.specs.PrintedPartLaws.{rgb_part, gray_part}
+use Rattle.description_round_trip.proofs.PrintedPartLaws.{rgb_part, gray_part}
 use Rattle.description_round_trip.specs.SameDescriptionLaws.{common_again}
 use Rattle.description_round_trip.specs.CommonNameLaws.{by_common_name}
 

@@ -13,7 +13,7 @@ use Rattle.profile.specs.Shape.{min_length, max_length}
 use Rattle.reader_spec.specs.RefusalList as Reader
 use Rattle.reader_spec.specs.RefusalListLaws.{number_bounds}
 use Rattle.reader_spec.specs.Read.{read}
-use Rattle.reader_spec.specs.Accepts.{accepted_owned}
+use Rattle.reader_spec.proofs.Accepts.{accepted_owned}
 use Rattle.reading.specs.Reading.{reading}
 use Rattle.app2.specs.Segments.{Segment, bytes, cut, segments}
 use Rattle.app2.specs.Joining.{parse, complete, joined}

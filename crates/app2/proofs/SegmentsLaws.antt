@@ -12,8 +12,8 @@ use Rattle.app2.specs.Permutation.{Permutation, none as no_member, same_first, s
 use Rattle.app2.specs.Properties.{Cut, last, whole, Short, Fits}
 use Rattle.app2.specs.CutLaws.{cut_join, cut_cut, cut_number, cut_within}
 use Rattle.app2.specs.ParseLaws.{length-segment, parse_bytes}
-use Rattle.app2.specs.JoinLaws.{complete_numbered, joined_numbered, complete_same, joined_same}
-use Rattle.app2.specs.ChecksLaws.{complete_of}
+use Rattle.app2.proofs.JoinLaws.{complete_numbered, joined_numbered, complete_same, joined_same}
+use Rattle.app2.proofs.ChecksLaws.{complete_of}
 
 -- ---- any data
 

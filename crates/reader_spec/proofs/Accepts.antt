@@ -10,7 +10,7 @@ use Rattle.reader_spec.specs.FileLaws.{layout_injective}
 use Rattle.reader_spec.specs.RefusalList.{accepted}
 use Rattle.reader_spec.specs.Read.{read}
 use Rattle.reader_spec.specs.Owners.{Owned}
-use Rattle.reader_spec.specs.AcceptsLaws.{accepted_lays_out, laid_out_accepted, owned_layout}
+use Rattle.reader_spec.proofs.AcceptsLaws.{accepted_lays_out, laid_out_accepted, owned_layout}
 
 -- ---- which files are accepted, and how
 

@@ -17,8 +17,8 @@ use Rattle.reader_spec.specs.FileLaws.{length-slots, tags_with_id, entries_with_
 use Rattle.reader_spec.specs.RefusalList.{Answer, Check, refused, accepted}
 use Rattle.reader_spec.specs.Read.{read}
 use Rattle.reader_spec.specs.Owners.{In, Span, span, spans, end}
-use Rattle.reader_spec.specs.OwnersLaws.{place_bounds, lines_places}
-use Rattle.reader_spec.specs.Accepts.{accepts_exactly}
+use Rattle.reader_spec.proofs.OwnersLaws.{place_bounds, lines_places}
+use Rattle.reader_spec.proofs.Accepts.{accepts_exactly}
 use Rattle.reader_spec.specs.Finder.{line_of, found, is_among, element_under}
 
 module _ (f s : List ℕ) where

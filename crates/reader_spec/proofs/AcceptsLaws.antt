@@ -18,11 +18,12 @@ use Rattle.reader_spec.specs.Exists.{Exists}
 use Rattle.reader_spec.specs.FileLaws.{fours, small, header_128, varying_with_id, computed_exists, marked_exists}
 use Rattle.reader_spec.specs.Table.{varying_of}
 use Rattle.reader_spec.specs.RefusalList.{Answer, Answers, Check, FirstFailing, Ok28, Passed, accepted, accepts, c28, refused, refuses}
-use Rattle.reader_spec.specs.RefusalListLaws.{answer_unique, passes_before}
+use Rattle.reader_spec.specs.RefusalListLaws.{passes_before}
+use Rattle.reader_spec.proofs.RefusalListAnswers.{answer_unique}
 use Rattle.reader_spec.specs.Read.{read}
-use Rattle.reader_spec.specs.ReadAnswers.{read_answers, read_is}
+use Rattle.reader_spec.proofs.ReadAnswers.{read_answers, read_is}
 use Rattle.reader_spec.specs.Owners.{Owned}
-use Rattle.reader_spec.specs.OwnersLaws.{NonEmpty, owned}
+use Rattle.reader_spec.proofs.OwnersLaws.{NonEmpty, owned}
 
 module _ (f : List ℕ) (p : Plan) where
   pub accepted_lays_out : read f ≡ accepted p → Exists p × (layout p ≡ f)

@@ -28,7 +28,7 @@ use Rattle.description_parser.specs.Parse.{rgb_fields, gray_fields}
 use Rattle.description_laws.specs.PartsLaws.{intent_exact, pair_exact, white_exact, primaries_exact}
 use Rattle.description_round_trip.specs.TwoDigits.{TwoDigits, WhiteTwoDigits, PrimariesTwoDigits, TransferTwoDigits}
 use Rattle.description_round_trip.specs.AsRead.{float_as_read, white_as_read, primaries_as_read, transfer_as_read}
-use Rattle.description_round_trip.specs.PrintedFloatLaws.{like_printed, like_printed_lem, float_only, float_text}
+use Rattle.description_round_trip.proofs.PrintedFloatLaws.{like_printed, like_printed_lem, float_only, float_text}
 
 -- ---- parts
 

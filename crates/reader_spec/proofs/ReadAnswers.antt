@@ -2,7 +2,7 @@
 -- Assumes nothing.
 use Rattle.std.specs.Prelude.{ℕ, ◌≡◌, List}
 use Rattle.reader_spec.specs.RefusalList.{Answer, Answers}
-use Rattle.reader_spec.specs.RefusalListLaws.{answer_unique}
+use Rattle.reader_spec.proofs.RefusalListAnswers.{answer_unique}
 use Rattle.reader_spec.specs.Read.{read}
 use Rattle.reader_spec.specs.ReadLaws.{answered}
 

@@ -7,9 +7,9 @@ use Rattle.reader_spec.specs.Exists.{Exists}
 use Rattle.reader_spec.specs.Table.{entries_of}
 use Rattle.reader_spec.specs.RefusalList.{accepted}
 use Rattle.reader_spec.specs.Read.{read}
-use Rattle.reader_spec.specs.Accepts.{accepts_exactly}
+use Rattle.reader_spec.proofs.Accepts.{accepts_exactly}
 use Rattle.reader_spec.specs.Finder.{found, find, element_under}
-use Rattle.reader_spec.specs.FinderLaws.{named, named_layout}
+use Rattle.reader_spec.proofs.FinderLaws.{named, named_layout}
 
 pub finds : (f s : List ℕ) (p : Plan) → read f ≡ accepted p → find f s ≡ element_under s (elements p)
 unfolding find found

@@ -11,8 +11,8 @@ use Rattle.description_parser.specs.Language.{InLanguage}
 use Rattle.description_parser.specs.Parse.{not_in_language, gamma_is_zero, parse}
 use Rattle.description_round_trip.specs.TwoDigits.{TwoDigits, FloatsTwoDigits, gamma_prints_zero}
 use Rattle.description_round_trip.specs.AsRead.{float_as_read, encoding_as_read}
-use Rattle.description_round_trip.specs.InLanguageLaws.{tells}
-use Rattle.description_round_trip.specs.RoundTripLaws.{float_told, encoding_told, told_51, told_52, same_description, same_seven}
+use Rattle.description_round_trip.proofs.InLanguageLaws.{tells}
+use Rattle.description_round_trip.proofs.RoundTripLaws.{float_told, encoding_told, told_51, told_52, same_description, same_seven}
 
 -- a description is in the language exactly if every float of the encoding prints with at most two whole digits
 pub in_language_exactly : (e : JxlColorEncoding) → InLanguage (description e) ↔ FloatsTwoDigits e

@@ -14,7 +14,7 @@ use Rattle.encoding_plan.specs.EncodingPlanLaws.{from_color}
 use Rattle.encoding_plan.specs.declared.Encoding.{Encoding}
 use Rattle.writer.specs.Writer.{max_written}
 use Rattle.writer_laws.specs.PlanValid.{plan_valid}
-use Rattle.writer_laws.specs.WrittenLengthLaws.{at_most}
+use Rattle.writer_laws.proofs.AtMostLaws.{at_most}
 
 pub written_length : (a : Bool) (e : JxlColorEncoding) → HeldEncoding e → {p : Plan} → color_plan a e ≡ is p → (min_length ≤ length (layout p)) × (length (layout p) ≤ max_written)
 written_length a e held {p} h = ((layout_bounds InRange p (plan_valid a e held h)).0, at_most a e held h)

@@ -11,7 +11,7 @@ use Rattle.profile.specs.TagTypes.{join}
 use Rattle.reader_spec.specs.RefusalList.{accepted}
 use Rattle.reader_spec.specs.RefusalListLaws.{number_bounds}
 use Rattle.reader_spec.specs.Read.{read}
-use Rattle.reader_spec.specs.Accepts.{accepted_owned}
+use Rattle.reader_spec.proofs.Accepts.{accepted_owned}
 use Rattle.reader_spec.specs.FitsLaws.{Bytes}
 use Rattle.app2.specs.Segments.{Segment, bytes, cut, numbered, segments}
 use Rattle.app2.specs.Joining.{parse, complete, chunks_from, joined}
@@ -20,10 +20,10 @@ use Rattle.app2.specs.Permutation.{Permutation}
 use Rattle.app2.specs.Properties.{Cut, Short, Fits, Parsed, Named}
 use Rattle.app2.specs.CutLaws.{cut_join, cut_cut}
 use Rattle.app2.specs.ParseLaws.{parse_exactly as parsed-exactly, bytes_unique}
-use Rattle.app2.specs.JoinLaws.{same_order, complete_order, length_from}
-use Rattle.app2.specs.ChecksLaws.{named_few, accepted_of, accepted_is, sized_is, complete_of, complete_is, complete_not, fitting_of, fitting_is, fitting_exactly}
-use Rattle.app2.specs.ChecksLaws.{written_53, written_sized, joined_54, joined_55 as joined-short, joined_fitting, accepted_refusing, fitting_refusing}
-use Rattle.app2.specs.SegmentsLaws.{order_short, any_complete, any_joined, cut_short, cut_some, length-segments}
+use Rattle.app2.proofs.JoinLaws.{same_order, complete_order, length_from}
+use Rattle.app2.proofs.ChecksLaws.{named_few, accepted_of, accepted_is, sized_is, complete_of, complete_is, complete_not, fitting_of, fitting_is, fitting_exactly}
+use Rattle.app2.proofs.ChecksLaws.{written_53, written_sized, joined_54, joined_55 as joined-short, joined_fitting, accepted_refusing, fitting_refusing}
+use Rattle.app2.proofs.SegmentsLaws.{order_short, any_complete, any_joined, cut_short, cut_some, length-segments}
 
 -- ---- the cut
 

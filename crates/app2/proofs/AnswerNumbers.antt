@@ -8,13 +8,13 @@ use Rattle.buffer.specs.CheckedLaws.{Refusing, by_then}
 use Rattle.profile.specs.Shape.{min_length}
 use Rattle.reader_spec.specs.RefusalList as Reader
 use Rattle.reader_spec.specs.RefusalListLaws.{number_bounds}
-use Rattle.reader_spec.specs.Accepts.{accepted_owned}
+use Rattle.reader_spec.proofs.Accepts.{accepted_owned}
 use Rattle.app2.specs.Segments.{bytes}
 use Rattle.app2.specs.Joining.{joined}
 use Rattle.app2.specs.App2
-use Rattle.app2.specs.ChecksLaws.{accepted_refusing, sized_refusing, complete_refusing, fitting_refusing}
-use Rattle.app2.specs.SegmentsLaws.{length-segments}
-use Rattle.app2.specs.RoundTrip.{written_is, joined_is}
+use Rattle.app2.proofs.ChecksLaws.{accepted_refusing, sized_refusing, complete_refusing, fitting_refusing}
+use Rattle.app2.proofs.SegmentsLaws.{length-segments}
+use Rattle.app2.proofs.RoundTrip.{written_is, joined_is}
 
 -- ---- the refusal numbers
 

@@ -15,7 +15,7 @@ use Rattle.writer.specs.Writer.{answer, number, count_after, profile_by}
 use Rattle.writer.specs.declared.Profile.TheVariants.{Refused}
 use Rattle.writer_laws.specs.RefusalNumbersLaws as Laws
 use Rattle.writer_laws.specs.RefusalNumbersLaws.{refusal_bounds, told}
-use Rattle.writer_laws.specs.WrittenLength.{written_length}
+use Rattle.writer_laws.proofs.WrittenLength.{written_length}
 
 pub refusal_number_lem : (a : Bool) (e : JxlColorEncoding) {k : ℕ} → color_plan a e ≡ refused k → (1 ≤ k) × (k ≤ 8)
 refusal_number_lem a e h = refusal_bounds a e h

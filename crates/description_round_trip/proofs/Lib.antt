@@ -1,0 +1,5 @@
+pub mod PrintedFloatLaws
+pub mod PrintedPartLaws
+pub mod InLanguageLaws
+pub mod RoundTripLaws
+pub mod RoundTrip

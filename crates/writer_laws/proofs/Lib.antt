@@ -1,0 +1,3 @@
+pub mod AtMostLaws
+pub mod WrittenLength
+pub mod RefusalNumbers
