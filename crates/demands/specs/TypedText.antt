@@ -6,7 +6,7 @@ use Rattle.buffer.specs.Checked.{Checked, is}
 use Rattle.color_encoding.specs.declared.JxlColorEncoding.{JxlColorEncoding}
 use Rattle.description_parser.specs.Language.{Describes, InLanguage, zero_gamma}
 use Rattle.description_parser.specs.Parse.{parse}
-use Rattle.description_laws.proofs.Reads.{answers_encoding, answers_51, answers_52}
+use Rattle.description_laws.proofs.ReadsTexts.{answers_encoding, answers_51, answers_52}
 use Rattle.description_laws.specs.HeldLaws.{typed_held}
 use Rattle.encoding_record.specs.EncodingRecord.{encoding_size, encoding_by}
 use Rattle.coded_writer.specs.CodedWriter.{plain, WritesCode}

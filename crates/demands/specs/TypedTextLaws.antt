@@ -9,7 +9,7 @@ use Rattle.color_encoding.specs.declared.JxlColorEncoding.{JxlColorEncoding}
 use Rattle.text.specs.Held.{HeldEncoding}
 use Rattle.description_parser.specs.Language.{Describes, InLanguage, zero_gamma}
 use Rattle.description_parser.specs.Parse.{parse}
-use Rattle.description_laws.proofs.Reads.{answers_encoding, answers_51, answers_52}
+use Rattle.description_laws.proofs.ReadsTexts.{answers_encoding, answers_51, answers_52}
 use Rattle.description_laws.specs.ReadsLaws.{Answer, given}
 use Rattle.description_laws.specs.ReadsLaws as Reads
 use Rattle.encoding_record.specs.EncodingRecord.{encoding_size, encoding_record, encoding_by}

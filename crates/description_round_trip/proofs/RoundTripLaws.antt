@@ -15,7 +15,7 @@ use Rattle.decimal_parser.specs.FloatText.{FloatText}
 use Rattle.decimal_parser.specs.FloatLaws.{float_exact}
 use Rattle.description_parser.specs.Language.{Describes, is_zero, zero_transfer, zero_gamma}
 use Rattle.description_parser.specs.Parse.{not_in_language, gamma_is_zero, parse}
-use Rattle.description_laws.proofs.Reads.{one_reading, answers_encoding, answers_51, answers_52}
+use Rattle.description_laws.proofs.ReadsTexts.{one_reading, answers_encoding, answers_51, answers_52}
 use Rattle.description_laws.specs.ZeroLaws.{rounds_to_zero}
 use Rattle.description_round_trip.specs.TwoDigits.{ten_millionths, TwoDigits, FloatsTwoDigits, prints_zero, transfer_prints_zero, gamma_prints_zero}
 use Rattle.description_round_trip.specs.AsRead.{float_as_read, transfer_as_read, encoding_as_read}

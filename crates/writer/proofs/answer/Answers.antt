@@ -51,7 +51,7 @@ module _ (c : Else-planned-ne0) where
   few : (shape plan).letters ≤ max_letters
   few =
       letters_by c.args.planned.plan text
-      (length-in_range encoding.color (held_encoding encoding.color _ c.good.0.1.1.0) (planned_in_range _ _ (counted_value (color_floats encoding.adapted encoding.color) _ (sym given))))
+      (length-in_range encoding.color (held_encoding encoding.color _ c.well_formed.0.1.1.0) (planned_in_range _ _ (counted_value (color_floats encoding.adapted encoding.color) _ (sym given))))
 
   nines : Nines plan.content
   nines = nines_by c.args.planned.plan text (search rules) (search rules)
