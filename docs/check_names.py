@@ -5,7 +5,7 @@
 
 Looked at are the words in backquotes of COVERAGE.md, SUPPLIER.md and EDITS.md that have one of these forms:
 
-  crate/File#name   a definition or theorem of crates/crate/specs/File.antt
+  crate/File#name   a definition or theorem of crates/crate/specs/File.antt, or a theorem of its proofs/File.antt
   crate#name        a function, struct, enum or constant of crates/crate/src
   crate/label       the edit crates/crate/must-fail/label.edit; a label alone stands for the crate before it, in EDITS.md
   folder/file       a file of the repository: crates/..., differential/..., docs/... and so on
@@ -31,8 +31,8 @@ def has(path, forms, name):
 
 
 def defined(crate, file, name):
-    path = TOP / "crates" / crate / "specs" / f"{file}.antt"
-    return path.is_file() and has(path, (SPECIFICATION, CONSTRUCTORS), name)
+    paths = (TOP / "crates" / crate / folder / f"{file}.antt" for folder in ("specs", "proofs"))
+    return any(path.is_file() and has(path, (SPECIFICATION, CONSTRUCTORS), name) for path in paths)
 
 
 def coded(crate, name):

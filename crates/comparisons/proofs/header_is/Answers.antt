@@ -17,7 +17,7 @@ use Rattle.comparisons.proofs.header_is.Goals as goal
 pub overflow_cast-file : goal.overflow_cast-file
 unfolding varying_of
 overflow_cast-file c =
-    record { fits = omega (arith, c.requires.1, word32_lt c.args.file.now (λ i. (c.shared_slice_known-1.given i).fits)) }
+    record { fits = omega (arith, c.requires.1, word32_lt c.args.file.now (λ i. (c.type_inv.file i).fits)) }
 
 pub slice_bounds-same_bytes-end : goal.slice_bounds-same_bytes-end
 slice_bounds-same_bytes-end c =

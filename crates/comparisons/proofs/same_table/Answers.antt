@@ -2,18 +2,17 @@
 use mathlib.Core.Path.{◌∙◌}
 use native.Mathlib.Omega.{arith}
 use borrow.Author.Rules.{rules}
-use Rattle.buffer.specs.Bytes.{same}
-use Rattle.comparisons.proofs.Tables.{Starts, starts, laid_table}
-use Rattle.comparisons.proofs.same_table.Goals.{After-put_table-at}
+use Rattle.comparisons.proofs.Tables.{starts, laid_table}
 use Rattle.comparisons.proofs.same_table.Goals as goal
-
-module _ (c : After-put_table-at) where
-
-  bounds : Starts c.args.shape
-  bounds = starts c.args.shape
 
 pub put_table-at-requires : goal.put_table-at-requires
 put_table-at-requires c = (c.requires.0, omega (arith, starts c.args.shape))
+
+pub slice_bounds-same_bytes-end : goal.slice_bounds-same_bytes-end
+slice_bounds-same_bytes-end c = omega (arith, c.put_table-at.ensures.place, starts c.args.shape, c.requires.1)
+
+pub slice_bounds-same_bytes-end-2 : goal.slice_bounds-same_bytes-end-2
+slice_bounds-same_bytes-end-2 c = omega (arith, c.put_table-at.ensures.place, starts c.args.shape, c.put_table-at.auto.out)
 
 pub returns : goal.returns
 returns c =

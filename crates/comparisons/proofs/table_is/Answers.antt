@@ -9,7 +9,6 @@ use Rattle.comparisons.proofs.table_is.Goals.{Else-not-shape_is_good}
 use Rattle.comparisons.proofs.table_is.Goals as goal
 
 module _ (c : Else-not-shape_is_good) where
-
   good : GoodShape c.args.shape
   good = c.shape_is_good.ensures.0 (c.if-not-shape_is_good.false)
 

@@ -1,9 +1,7 @@
 -- With i numbers behind it, the loop has the first i in place: the law `numbers_snoc`. The measure is how many are left.
-use Prim.Native.Nat.{◌-◌}
 use mathlib.Core.Path.{◌≡◌, refl, sym, ◌∙◌}
 use native.Mathlib.Omega.{arith}
 use native.Mathlib.Numerals.{add-one}
-use lib.ListN.{take, drop}
 use lib.Seq.{take_all, take-suc-set, drop-drop}
 use borrow.Author.Rules.{rules}
 use Rattle.reader_spec.specs.PlanIn.{numbers_from}

@@ -33,10 +33,10 @@ returns c =
     let s = c.args.shape in
     let letters = c.free_letters-letters.ensures in
     let text : low_bytes (take (2 * free_letters s.kind s.letters) (drop ((line_in f 0).offset + 28) f)) ≡ text_of (plan_in f) =
-    rw (← drop-drop 28 (line_in f 0).offset f) (text_by f s (sym c.requires.0.Shape_is))
+    rw (← drop-drop 28 (line_in f 0).offset f) (text_by f s (sym c.requires.0.shape_is))
     in
     record {
       size = refl;
-      place = letters ∙ sym (letters_are s f c.requires.0) ∙ ap length (text_by f s (sym c.requires.0.Shape_is)) ∙ sym (zero-add _);
+      place = letters ∙ sym (letters_are s f c.requires.0) ∙ ap length (text_by f s (sym c.requires.0.shape_is)) ∙ sym (zero-add _);
       bytes = c.read_letters.ensures ∙ rw (letters, c.offset_at.ensures, text);
     }
