@@ -2,11 +2,6 @@
 use Prim.Native.Nat.{ℕ, ◌<◌}
 use mathlib.Core.Path.{◌≡◌, sym, subst, ◌∙◌}
 use mathlib.Core.List.{List, [], ◌∷◌}
-use mathlib.Core.Logic.{inl, inr}
-use native.Mathlib.Omega.{arith}
-use types.Run.{OneOf}
-use denote.Enum.Declared.{tag_of}
-use Rattle.job.specs.contracts.EntryAnswer as Form
 use Rattle.job.specs.Job.{job, cut, sections, entry_alone}
 use Rattle.job.specs.declared.JobEntry.{JobEntry}
 use Rattle.job.specs.declared.EntryAnswer.{EntryAnswer}
@@ -16,9 +11,6 @@ use Rattle.job_output.specs.JobOutput.{parts_of}
 use Rattle.job_output.specs.Entries.{Entries}
 use Rattle.job_output.specs.PartsLaws.{NextPart, turn}
 use Rattle.entry_output.specs.declared.Stream.{Stream}
-
-is_tag : {a : EntryAnswer} {e : JobEntry} → a ≡ Is e → OneOf (1 ∷ 2 ∷ []) (tag_of Form.the_type a) → ⊥
-is_tag e h = elim (subst (λ (x : EntryAnswer). OneOf (1 ∷ 2 ∷ []) (tag_of Form.the_type x)) e h) [ inl z ↦ omega arith | inr z ↦ omega arith ]
 
 is_one : {a b : JobEntry} → Is a ≡ Is b → a ≡ b
 is_one e = cc
@@ -30,5 +22,5 @@ module _ (s : Stream) {l : List ℕ} {n i : ℕ} {a : EntryAnswer} (good : Entri
       let same : t.entry ≡ e = is_one (sym t.alone ∙ sym asked ∙ h) in
       subst (λ (x : JobEntry). NextPart (parts_of s (job 1 l)) i (part_of s x)) same t.next
 
-  pub no_other : OneOf (1 ∷ 2 ∷ []) (tag_of Form.the_type a) → ⊥
-  no_other h = is_tag (asked ∙ (turn s good i below).alone) h
+  pub no_other : ((e : JobEntry) → a ≡ Is e → ⊥) → ⊥
+  no_other h = let t = turn s good i below in h t.entry (asked ∙ t.alone)

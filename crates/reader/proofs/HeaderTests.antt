@@ -1,11 +1,10 @@
 -- What the reader answers by its tests: 23, 24 or 25, or what the elements give. Assumes nothing.
 use Prim.Native.Nat.{ℕ}
 use mathlib.Core.Path.{◌≡◌, ap, sym, subst, ◌∙◌}
-use mathlib.Core.Bool.{Bool, true, false, not}
+use mathlib.Core.Bool.{Bool, true, false}
 use mathlib.Core.List.{List}
 use native.Mathlib.Omega.{arith}
 use lib.ListN.{take}
-use borrow.Author.Tests.{not-true, not-false}
 use Rattle.buffer.specs.Bytes.{same}
 use Rattle.buffer.specs.BytesLaws.{same_if, same_of}
 use Rattle.profile.specs.Plan.{GoodIntent}
@@ -29,20 +28,18 @@ pub record Tested (k : Kind) (f : List ℕ) (b : Bool) (i : ℕ) : Type 0 where
   pub intent : i ≡ (varying_of f).intent
 
 module _ {k : Kind} {f : List ℕ} {b : Bool} {i : ℕ} (t : Tested k f b i) where
-  header_of : not b ≡ false → Header k f
+  header_of : b ≡ true → Header k f
   unfolding Header
-  header_of n = same_if _ _ (sym t.test ∙ not-false b n)
+  header_of n = same_if _ _ (sym t.test ∙ n)
 
-  pub headed : not b ≡ false → GoodIntent i → Headed k f
+  pub headed : b ≡ true → GoodIntent i → Headed k f
   headed n g = record { sized = t.sized; header = header_of n; intent = subst GoodIntent t.intent g }
 
-  pub answer_23 : {r : Reading} → not b ≡ true → r ≡ refused_with 23 → r ≡ reading (read f)
+  pub answer_23 : {r : Reading} → b ≡ false → r ≡ refused_with 23 → r ≡ reading (read f)
   unfolding Header
-  answer_23 n e =
-      let fails : b ≡ false = not-true b n in
-      e ∙ sym (ap reading (read_23 k f t.sized (λ h. let holds : b ≡ true = t.test ∙ same_of h in let z : ◌≡◌ {A = ℕ} 0 1 = cc in absurd (omega arith))))
+  answer_23 n e = e ∙ sym (ap reading (read_23 k f t.sized (λ h. let holds : b ≡ true = t.test ∙ same_of h in let z : ◌≡◌ {A = ℕ} 0 1 = cc in absurd (omega arith))))
 
-  pub answer_24 : {r : Reading} → not b ≡ false → ¬ (GoodIntent i) → r ≡ refused_with 24 → r ≡ reading (read f)
+  pub answer_24 : {r : Reading} → b ≡ true → ¬ (GoodIntent i) → r ≡ refused_with 24 → r ≡ reading (read f)
   answer_24 n g e = e ∙ sym (ap reading (read_24 k f t.sized (header_of n) (λ h. g (subst GoodIntent (sym t.intent) h))))
 
 pub answer_table : {k : Kind} {f : List ℕ} {r : Reading} → Headed k f → r ≡ reading (from_table f) → r ≡ reading (read f)

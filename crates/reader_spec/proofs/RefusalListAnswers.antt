@@ -1,29 +1,16 @@
 -- A plan that exists passes every check of the reader's list, and a file has one answer at most. Assumes nothing.
-use Rattle.std.specs.Prelude.{ℕ, ◌+◌, ◌*◌, ◌≤◌, ◌≡◌, ◌⊎◌, Bool, cond, ℤ}
-use Rattle.std.proofs.Math.Path.{refl, ap, ap₂, sym, subst}
-use Rattle.std.proofs.Common.{◌∙◌, lit≤, take-append-drop, take_at, SFits}
-use Rattle.std.proofs.Math.Logic.{inl, inr}
-use Rattle.std.proofs.Math.Bool.{true, false}
-use mathlib.Core.List.{List, [], ◌∷◌, ◌++◌}
-use native.Mathlib.Omega.{arith}
-use Rattle.std.proofs.Math.ListN.{length, drop, length-append, length-drop}
-use Rattle.std.proofs.Math.Seq.{drop-drop, length-take-le}
-use Rattle.std.specs.Int.{w32}
-use Rattle.buffer.specs.All.{All, none, more}
+use Rattle.std.specs.Prelude.{ℕ, ◌≡◌}
+use Rattle.std.proofs.Math.Path.{ap, sym, subst}
+use Rattle.std.proofs.Common.{◌∙◌}
+use mathlib.Core.List.{List}
+use Rattle.buffer.specs.All.{none, more}
 use Rattle.buffer.specs.AllLaws.{All-append}
-use Rattle.words.specs.Words.{word32}
 use Rattle.buffer.specs.FirstLaws.{first_unique, first_not_all}
-use Rattle.profile.specs.Elements.{line_start, start, table, body, file, file_length}
-use Rattle.profile.specs.ElementsLaws.{length-table, length-body}
-use Rattle.profile.specs.Plan.{Plan, with_mark, kind, FourBytes, Good, Valid, Wide}
-use Rattle.profile.specs.declared.Kind.{Kind}
-use Rattle.buffer.specs.Bytes.{zeros}
-use Rattle.profile.specs.Layout.{header, varying, elements, slots, with_id, profile_id, computed_id, id_for, layout}
-use Rattle.profile.specs.LayoutLaws.{length-id_for, layout_bounds, any_id, layout_computed, layout_marked}
+use Rattle.profile.specs.Plan.{Plan}
+use Rattle.profile.specs.Layout.{id_for, layout}
+use Rattle.profile.specs.LayoutLaws.{length-id_for}
 use Rattle.reader_spec.specs.Exists.{Exists}
-use Rattle.reader_spec.specs.Table.{varying_of, tags_of, table_of, body_of}
-use Rattle.reader_spec.specs.PlanIn.{plan_in}
-use Rattle.reader_spec.specs.FileLaws.{device_fits, fours, header_128, length-slots, length-file, table_with_id, body_with_id, varying_with_id, varying_layout, plan_in_with_id, valid_wide, layout_injective}
+use Rattle.reader_spec.specs.FileLaws.{valid_wide, layout_injective}
 use Rattle.reader_spec.specs.RefusalList
 use Rattle.reader_spec.specs.RefusalListLaws.{AllPassed, before_id, passes_before, passes_id}
 

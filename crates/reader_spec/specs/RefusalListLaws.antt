@@ -10,9 +10,7 @@ use Rattle.std.proofs.Math.ListN.{length, drop, length-append, length-drop}
 use Rattle.std.proofs.Math.Seq.{drop-drop, length-take-le}
 use Rattle.std.specs.Int.{w32}
 use Rattle.buffer.specs.All.{All, none, more}
-use Rattle.buffer.specs.AllLaws.{All-append}
 use Rattle.words.specs.Words.{word32}
-use Rattle.buffer.specs.FirstLaws.{first_unique, first_not_all}
 use Rattle.profile.specs.Elements.{line_start, start, table, body, file, file_length}
 use Rattle.profile.specs.ElementsLaws.{length-table, length-body}
 use Rattle.profile.specs.Plan.{Plan, with_mark, kind, FourBytes, Good, Valid, Wide}
@@ -20,10 +18,9 @@ use Rattle.profile.specs.declared.Kind.{Kind}
 use Rattle.buffer.specs.Bytes.{zeros}
 use Rattle.profile.specs.Layout.{header, varying, elements, slots, with_id, profile_id, computed_id, id_for, layout}
 use Rattle.profile.specs.LayoutLaws.{length-id_for, layout_bounds, any_id, layout_computed, layout_marked}
-use Rattle.reader_spec.specs.Exists.{Exists}
 use Rattle.reader_spec.specs.Table.{varying_of, tags_of, table_of, body_of}
 use Rattle.reader_spec.specs.PlanIn.{plan_in}
-use Rattle.reader_spec.specs.FileLaws.{device_fits, fours, header_128, length-slots, length-file, table_with_id, body_with_id, varying_with_id, varying_layout, plan_in_with_id, valid_wide, layout_injective}
+use Rattle.reader_spec.specs.FileLaws.{device_fits, fours, header_128, length-slots, length-file, table_with_id, body_with_id, varying_with_id, varying_layout, plan_in_with_id, valid_wide}
 use Rattle.reader_spec.specs.RefusalList
 
 -- ---- the numbers of the checks

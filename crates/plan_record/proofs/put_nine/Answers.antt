@@ -1,5 +1,4 @@
 -- With i numbers behind it, the loop has put the first i: the laws `begun`, `one_more`, `ended`. The measure is how many are left. Assumes nothing.
-use Prim.Native.Nat.{◌-◌}
 use mathlib.Core.Path.{◌≡◌, refl, ap, ◌∙◌}
 use native.Mathlib.Omega.{arith}
 use borrow.Author.Rules.{rules}

@@ -1,6 +1,5 @@
 -- With i numbers behind it, the loop has put the first i: the laws `begun`, `one_more`, `ended`. The measure is how many are left. Assumes nothing.
 use borrow.Author.Rules.{rules}
-use Prim.Native.Nat.{◌-◌}
 use mathlib.Core.Path.{refl}
 use native.Mathlib.Omega.{arith}
 use Rattle.elements.specs.EncodingLaws.{begun, one_more}
