@@ -212,7 +212,7 @@ def check_counts():
 
     # Linear has ones and zeros; of XYB's matrix the constants, and not the intercepts.
     due = {"SRGB": rounded_of("curve SRGB"), "BT709": rounded_of("curve BT709"), "Linear": 0, "DCI": rounded_of("curve DCI, gamma")}
-    white, matrix = rounded_of("d50Floats"), rounded_of("xybIccMatrix")
+    white, matrix = rounded_of("d50_floats"), rounded_of("xyb_icc_matrix")
     for curve, numbers, rounded in rows(["curve", "numbers", "rounded"]):
         if numbers != ("1" if curve == "gamma" else "5") or str(due.get(curve, "by 1 / g")) != rounded:
             yield f"curve {curve}: {numbers} numbers, {rounded} rounded"

@@ -38,11 +38,11 @@
  * own.
  *
  * Stack. A call takes at most MERQYDUK_STACK bytes. Measured by host/stack.c, with arguments and memcpy:
- * merqyduk_write_gray 1,832, merqyduk_write_rgb 2,016, merqyduk_write_xyb 1,832, merqyduk_length_gray 928,
- * merqyduk_length_rgb 1,216, merqyduk_length_xyb 928, the same with _counted 1,832, 2,016, 1,832, 928, 1,216 and 928,
- * the first three with _device 1,864, 2,032 and 1,832, merqyduk_write_gray_adapted 2,032,
- * merqyduk_length_gray_adapted 1,184, merqyduk_job 296, merqyduk_job_profile 2,176, merqyduk_read 3,800,
- * merqyduk_find 3,864, merqyduk_parse_description 712, merqyduk_write_segments 3,864, merqyduk_join_segments 6,280.
+ * merqyduk_write_gray 2,000, merqyduk_write_rgb 2,320, merqyduk_write_xyb 1,904, merqyduk_length_gray 1,168,
+ * merqyduk_length_rgb 1,488, merqyduk_length_xyb 1,072, the same with _counted 2,016, 2,320, 1,904, 1,184, 1,504 and 1,088,
+ * the first three with _device 2,032, 2,352 and 1,904, merqyduk_write_gray_adapted 2,336,
+ * merqyduk_length_gray_adapted 1,440, merqyduk_job 456, merqyduk_job_profile 2,544, merqyduk_read 3,800,
+ * merqyduk_find 3,832, merqyduk_parse_description 456, merqyduk_write_segments 3,832, merqyduk_join_segments 6,728.
  * Not counted is the dynamic linker, which takes about 2,600 more where a program's first memcpy is looked up in the
  * call; -Wl,-z,now has it looked up before.
  *
