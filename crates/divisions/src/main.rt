@@ -12,7 +12,7 @@ ghost use Rattle.std.specs.Prelude.{◌≤◌};
 use buffer::{byte_at, same_bytes};
 use scanner::letters_at;
 use std::env::{Env, FillError};
-use std::fs::{File, Files};
+use std::fs::Files;
 use std::io;
 use std::num::{wrapping_add_u64, wrapping_add_usize, wrapping_sub_usize};
 
@@ -602,10 +602,7 @@ fn file<R: Files>(rt: &R, name: &[u8], text: &mut [u8]) -> usize {
     let Ok(path) = str::from_utf8(name) else {
         return 0;
     };
-    match File::open(rt, path) {
-        Ok(mut file) => streams::read_full(&mut file, text),
-        Err(_) => 0,
-    }
+    streams::read_file(rt, path, text)
 }
 
 fn search_argument<R: Env + Files + Print>(rt: &R, i: usize) -> io::Result<()> {

@@ -36,7 +36,7 @@ gray_numbers w =
 abbrev pub chad_numbers : WhiteXy → Checked (List ℤ)
 chad_numbers w = then (chad_matrix w) (λ m. each (fixed_or 5) (rows m))
 
--- those of `r_xyz`, `g_xyz` and `b_xyz`. 7: one does not fit
+-- those of `rXYZ`, `gXYZ` and `bXYZ`. 7: one does not fit
 abbrev pub column_numbers : PrimariesXy → WhiteXy → Checked (List ℤ)
 column_numbers p w = then (create_icc_rgb_matrix p w) (λ m. each (fixed_or 7) (columns m))
 

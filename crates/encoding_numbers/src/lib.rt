@@ -117,7 +117,7 @@ pub fn chad_numbers(white: WhiteXy) -> NineNumbers
     }
 }
 
-// The nine numbers of `r_xyz`, `g_xyz` and `b_xyz`.
+// The nine numbers of `rXYZ`, `gXYZ` and `bXYZ`.
 pub fn column_numbers(primaries: PrimariesXy, white: WhiteXy) -> NineNumbers
     ensures { checked_nine_numbers result ≡ counted (column_floats primaries white) (column_numbers primaries white) }
 {

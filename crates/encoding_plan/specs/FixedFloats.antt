@@ -27,9 +27,9 @@ white_floats false w = gray_floats w
 
 -- a is the mark "adapted" of gray
 unfoldable pub color_floats : Bool → JxlColorEncoding → List Float
--- `wtpt`, `chad` with the mark, `k_trc`
+-- `wtpt`, `chad` with the mark, `kTRC`
 color_floats a (GrayscaleColorSpace w t i) = white_floats a (white_xy w) ++ transfer_floats t
--- `wtpt`, `chad`, `r_xyz` to `b_xyz`, `r_trc` to `b_trc`
+-- `wtpt`, `chad`, `rXYZ` to `bXYZ`, `rTRC` to `bTRC`
 color_floats a (RgbColorSpace w p t i) = d50_floats ++ chad_floats (white_xy w) ++ column_floats (primaries_xy p) (white_xy w) ++ transfer_floats t
 -- `wtpt`, `chad`, `A2B0`, `B2A0`
 color_floats a (XYB i) = d50_floats ++ Xyb.fixed_floats

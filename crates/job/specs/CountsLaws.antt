@@ -12,7 +12,7 @@ use Rattle.job.specs.declared.Span.TheVariants as S
 use Rattle.job.specs.declared.EntryAnswer.{EntryAnswer}
 use Rattle.job.specs.declared.EntryAnswer.TheVariants as E
 
--- ---- a one_byte count
+-- ---- a one-byte count
 
 pub one_byte : (l : List ℕ) (at : ℕ) → at < length l → count 1 (drop at l) ≡ get_or l at 0
 one_byte l at h = ap (λ (k : List ℕ). count 1 k) (drop-cons l at 0 h) ∙ zero-add (get_or l at 0)

@@ -1,10 +1,11 @@
-// Reading an input as a whole, piece by piece, into a lent buffer.
+// Reading an input or a file as a whole, piece by piece, into a lent buffer.
 
 #![tactic(auto)]
 
 ghost use Rattle.std.specs.Prelude.{◌≤◌, take, length};
 ghost use Rattle.std.specs.Io.KnownBytes.{Consumes};
 
+use std::fs::{File, Files};
 use std::io::Read;
 
 // Reads until the buffer is full, the input ends or a read fails. Answers how many bytes it put at the buffer's start; where it is known what the input
@@ -21,4 +22,14 @@ pub fn read_full<R: Read>(input: &mut R, buf: &mut [u8]) -> usize
         }
     }
     done
+}
+
+// The same of a file: 0 where it cannot be opened.
+pub fn read_file<R: Files>(rt: &R, path: &str, buf: &mut [u8]) -> usize
+    ensures { result ≤ length buf.new }
+{
+    match File::open(rt, path) {
+        Ok(mut file) => read_full(&mut file, buf),
+        Err(_) => 0,
+    }
 }

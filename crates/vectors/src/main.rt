@@ -15,7 +15,6 @@ use job::JobAnswer;
 use job_output::{JobProfile, MOST_LISTING, Output};
 use numbers::S15Fixed16;
 use reading::Reading;
-use std::fs::{File, Files};
 use std::io;
 use std::num::{wrapping_add_u64, wrapping_add_usize, wrapping_sub_usize};
 use white_point::WhiteXyz;
@@ -575,18 +574,10 @@ fn room() -> [u8; 1650000]
     [UNTOUCHED; 1650000]
 }
 
-// Puts a file into a space, and answers how many bytes it has; 0 where it cannot be opened.
-fn file<R: Files>(rt: &R, path: &str, space: &mut [u8]) -> usize {
-    match File::open(rt, path) {
-        Ok(mut file) => streams::read_full(&mut file, space),
-        Err(_) => 0,
-    }
-}
-
 fn main(rt: HostRuntime) -> io::Result<()> {
     let mut space = room();
     let mut tally = [0u64; PLACES];
-    let n = file(&rt, "list", &mut space);
+    let n = streams::read_file(&rt, "list", &mut space);
     let list = part(&space, 0, n);
     if same_bytes(
         part(list, 0, 54),
