@@ -1,4 +1,4 @@
-// Numbers as an ICC profile holds them: the bits of signed numbers and of floats, and s15_fixed16 numbers. (Their bytes are in words.)
+// Numbers as an ICC profile holds them: the bits of signed numbers and of floats, and s15Fixed16 numbers. (Their bytes are in words.)
 
 #![tactic(auto)]
 
