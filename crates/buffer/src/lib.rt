@@ -29,10 +29,8 @@ pub fn same_bytes(a: &[u8], b: &[u8]) -> bool
         return false;
     }
     let mut all = true;
-    let mut i = 0usize;
-    while i < a.len() {
+    for i in 0..a.len() {
         all = and_equal(all, a[i], b[i]);
-        i += 1;
     }
     all
 }
@@ -48,10 +46,8 @@ pub fn is_ascii(text: &[u8]) -> bool
     ensures { result ≡ is_ascii text.now }
 {
     let mut all = true;
-    let mut i = 0usize;
-    while i < text.len() {
+    for i in 0..text.len() {
         all = and_ascii(all, text[i]);
-        i += 1;
     }
     all
 }
@@ -68,22 +64,18 @@ pub fn put_bytes(out: &mut [u8], at: usize, bytes: &[u8]) -> usize
     requires { at + length bytes.now ≤ length out.old }
     ensures { Puts out.old at (length bytes.now) bytes.now result out.new }
 {
-    let mut i = 0;
-    while i < bytes.len() {
+    for i in 0..bytes.len() {
         out[at + i] = bytes[i];
-        i += 1;
     }
-    at + i
+    at + bytes.len()
 }
 
 pub fn put_zeros(out: &mut [u8], at: usize, count: usize) -> usize
     requires { at + count ≤ length out.old }
     ensures { Puts out.old at count (zeros count) result out.new }
 {
-    let mut i = 0;
-    while i < count {
+    for i in 0..count {
         out[at + i] = 0;
-        i += 1;
     }
     at + count
 }

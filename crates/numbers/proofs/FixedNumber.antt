@@ -22,8 +22,7 @@ use Rattle.floats.specs.Fields.{significand}
 use Rattle.floats.specs.FieldsLaws.{fields_of, at_top, field_value}
 use Rattle.floats.specs.Rounding.{halves_up}
 use Rattle.floats.specs.RoundingLaws.{halves_up_le, halves_up_same, halves_up_whole}
-use Rattle.numbers.specs.Fixed.{signed, largest, whole_fraction, of_fraction, s15_fixed16}
-use Rattle.numbers.specs.declared.fixed.S15Fixed16.TheVariants.{Number, OutOfRange}
+use Rattle.numbers.specs.Fixed.{some_number, signed, largest, whole_fraction, of_fraction, s15_fixed16}
 
 lt-or_ge : (a b : ℕ) → (a < b) ⊎ (b ≤ a)
 lt-or_ge a b = go (ltb a b) (ltb→lt a b) (nltb→le a b)
@@ -201,11 +200,11 @@ module _ (n : ℕ) (h : n < 2 ^ 31) where
 
 -- ---- from the pattern
 
-pub nan-refused : (x : Float) → ne x x ≡ true → OutOfRange ≡ s15_fixed16 x
+pub nan-refused : (x : Float) → ne x x ≡ true → None ≡ s15_fixed16 x
 unfolding s15_fixed16
 nan-refused x h = ap s15_fixed16 (sym (differs_from_itself x (subst T (sym h) tt)))
 
-not_finite : (s z : Bool) → OutOfRange ≡ s15_fixed16 (cond z (inf s) nan)
+not_finite : (s z : Bool) → None ≡ s15_fixed16 (cond z (inf s) nan)
 unfolding s15_fixed16
 not_finite s true = refl
 not_finite s false = refl
@@ -244,7 +243,7 @@ module _ (x : Float) (F : T (fits binary32 x)) where
       go true = omega arith
       go false = omega arith
 
-  pub refused_far : 141 < f → OutOfRange ≡ s15_fixed16 x
+  pub refused_far : 141 < f → None ≡ s15_fixed16 x
   refused_far h = ⊎_elim finite top (lt-or_ge f 255)
     where
       lead : significand binary32 f t ≡ 2 ^ 23 + t
@@ -253,17 +252,17 @@ module _ (x : Float) (F : T (fits binary32 x)) where
           ne : (f : ℕ) → 141 < f → f ≡ 0 → ⊥
           ne f h e = omega arith
 
-      finite : f < 255 → OutOfRange ≡ s15_fixed16 x
+      finite : f < 255 → None ≡ s15_fixed16 x
       finite l =
           sym (at_field l
           ∙ ap (λ (q : ℕ). of_fraction s (q * 2 ^ (f - 1)) (2 ^ 149)) lead
-          ∙ ap (λ (z : Bool). cond z (Number (signed s (scaled_of (2 ^ 23 + t) (f - 1))) (whole_fraction ((2 ^ 23 + t) * 2 ^ (f - 1)) (2 ^ 149))) OutOfRange)
+          ∙ ap (λ (z : Bool). cond z (some_number (signed s (scaled_of (2 ^ 23 + t) (f - 1))) (whole_fraction ((2 ^ 23 + t) * 2 ^ (f - 1)) (2 ^ 149))) None)
           (lt-leb ((2 ^ 23 + t) * 2 ^ (f - 1) * 65536) (largest * 2 ^ 149) (far (2 ^ 23 + t) (f - 1) (omega arith) (before f h))))
         where
           before : (f : ℕ) → 141 < f → 141 ≤ f - 1
           before f h = omega arith
 
-      top : 255 ≤ f → OutOfRange ≡ s15_fixed16 x
+      top : 255 ≤ f → None ≡ s15_fixed16 x
       top g = not_finite s (eqb t 0) ∙ ap s15_fixed16 (sym (at_top binary32 s t) ∙ ap (λ (k : ℕ). of_fields binary32 s k t) (is b f refl g) ∙ fields_of binary32 x F)
         where
           is : (b f : ℕ) → f ≡ b % 2 ^ 31 / 2 ^ 23 → 255 ≤ f → 255 ≡ f
@@ -273,20 +272,20 @@ module _ (x : Float) (F : T (fits binary32 x)) where
   q = significand binary32 f t
 
   module _ (near : f ≤ 141) (n : ℕ) (e : n ≡ scaled_of q (f - 1)) where
-    known : s15_fixed16 x ≡ cond (leb n largest) (Number (signed s n) (whole_fraction (q * 2 ^ (f - 1)) (2 ^ 149))) OutOfRange
+    known : s15_fixed16 x ≡ cond (leb n largest) (some_number (signed s n) (whole_fraction (q * 2 ^ (f - 1)) (2 ^ 149))) None
     known =
         at_field (under f near)
-        ∙ ap (λ (z : Bool). cond z (Number (signed s (scaled_of q (f - 1))) (whole_fraction (q * 2 ^ (f - 1)) (2 ^ 149))) OutOfRange) (range_is q (f - 1) digits_lt)
-        ∙ ap (λ (y : ℕ). cond (leb y largest) (Number (signed s y) (whole_fraction (q * 2 ^ (f - 1)) (2 ^ 149))) OutOfRange) (sym e)
+        ∙ ap (λ (z : Bool). cond z (some_number (signed s (scaled_of q (f - 1))) (whole_fraction (q * 2 ^ (f - 1)) (2 ^ 149))) None) (range_is q (f - 1) digits_lt)
+        ∙ ap (λ (y : ℕ). cond (leb y largest) (some_number (signed s y) (whole_fraction (q * 2 ^ (f - 1)) (2 ^ 149))) None) (sym e)
       where
         under : (f : ℕ) → f ≤ 141 → f < 255
         under f h = omega arith
 
-    by_range : {b : Bool} → leb n largest ≡ b → s15_fixed16 x ≡ cond b (Number (signed s n) (whole_fraction (q * 2 ^ (f - 1)) (2 ^ 149))) OutOfRange
-    by_range h = known ∙ ap (λ (z : Bool). cond z (Number (signed s n) (whole_fraction (q * 2 ^ (f - 1)) (2 ^ 149))) OutOfRange) h
+    by_range : {b : Bool} → leb n largest ≡ b → s15_fixed16 x ≡ cond b (some_number (signed s n) (whole_fraction (q * 2 ^ (f - 1)) (2 ^ 149))) None
+    by_range h = known ∙ ap (λ (z : Bool). cond z (some_number (signed s n) (whole_fraction (q * 2 ^ (f - 1)) (2 ^ 149))) None) h
 
-    pub refused_near : largest < n → OutOfRange ≡ s15_fixed16 x
+    pub refused_near : largest < n → None ≡ s15_fixed16 x
     refused_near h = sym (by_range (lt-leb n largest h))
 
-    pub kept : n ≤ largest → {w : Bool} → w ≡ whole_fraction (q * 2 ^ (f - 1)) (2 ^ 149) → Number (signed s n) w ≡ s15_fixed16 x
-    kept h same = ap (Number (signed s n)) same ∙ sym (by_range (le-leb n largest h))
+    pub kept : n ≤ largest → {w : Bool} → w ≡ whole_fraction (q * 2 ^ (f - 1)) (2 ^ 149) → some_number (signed s n) w ≡ s15_fixed16 x
+    kept h same = ap (some_number (signed s n)) same ∙ sym (by_range (le-leb n largest h))

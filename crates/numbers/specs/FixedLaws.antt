@@ -1,5 +1,5 @@
 -- The range of fixed numbers, and what a float that has one tells. Assumes nothing.
-use Rattle.std.specs.Prelude.{ℕ, zero, suc, ◌*◌, ◌≤◌, ◌<◌, ◌≡◌, refl, Bool, true, false, cond, List, [], ◌∷◌, map, T, leb, ℤ, nat_abs, Float}
+use Rattle.std.specs.Prelude.{Option, Some, None, ℕ, zero, suc, ◌*◌, ◌≤◌, ◌<◌, ◌≡◌, refl, Bool, true, false, cond, List, [], ◌∷◌, map, T, leb, ℤ, nat_abs, Float}
 use Rattle.std.proofs.Common.{ap, ap₂, ◌∙◌, arith, leb→le, lit≤}
 use Rattle.std.specs.Float.{nan, inf, fin}
 use Rattle.std.specs.Float.Ieee.{up, down}
@@ -8,9 +8,8 @@ use Rattle.buffer.specs.Checked.{is, refused, each}
 use Rattle.buffer.specs.CheckedLaws.{both}
 use Rattle.floats.specs.Rounding.{halves_up}
 use Rattle.floats.specs.RoundingLaws.{halves_up_le}
-use Rattle.numbers.specs.Fixed.{signed, largest, whole_fraction, of_fraction, s15_fixed16, whole, fixed_or, number_of, fixed_number}
+use Rattle.numbers.specs.Fixed.{some_number, signed, largest, whole_fraction, of_fraction, s15_fixed16, whole, fixed_or, number_of, fixed_number}
 use Rattle.numbers.specs.declared.fixed.S15Fixed16.{S15Fixed16}
-use Rattle.numbers.specs.declared.fixed.S15Fixed16.TheVariants.{Number, OutOfRange}
 
 -- ---- the range
 
@@ -22,7 +21,7 @@ nat_abs_signed false n = refl
 fraction_within : (s : Bool) (num den : ℕ) → 0 < den → nat_abs (number_of (of_fraction s num den)) ≤ largest
 fraction_within s num den d = go (leb (num * 65536) (largest * den)) (leb→le (num * 65536) (largest * den))
   where
-    go : (t : Bool) → (T t → num * 65536 ≤ largest * den) → nat_abs (number_of (cond t (Number (signed s (halves_up (num * 65536) den)) (whole_fraction num den)) OutOfRange)) ≤ largest
+    go : (t : Bool) → (T t → num * 65536 ≤ largest * den) → nat_abs (number_of (cond t (some_number (signed s (halves_up (num * 65536) den)) (whole_fraction num den)) None)) ≤ largest
     go true p = rw (nat_abs_signed s (halves_up (num * 65536) den)) (halves_up_le (num * 65536) den d largest (p tt))
     go false p = lit≤ tt
 
@@ -32,32 +31,32 @@ fixed_number_within nan = lit≤ tt
 fixed_number_within (inf s) = lit≤ tt
 fixed_number_within (fin s m e) = fraction_within s (m * up e) (down e) (down_pos e)
 
-number_within : (x : Float) (z : ℤ) {w : Bool} → s15_fixed16 x ≡ Number z w → nat_abs z ≤ largest
+number_within : (x : Float) (z : ℤ) {w : Bool} → s15_fixed16 x ≡ some_number z w → nat_abs z ≤ largest
 number_within x z e = rw e at (fixed_number_within x)
 
 -- ---- a float that has a fixed number
 
-pub no_number : {z : ℤ} {w : Bool} → OutOfRange ≡ Number z w → ⊥
+pub no_number : {z : ℤ} {w : Bool} → None ≡ some_number z w → ⊥
 no_number e = let zero_one : ◌≡◌ {A = ℕ} 0 1 = cc in omega arith
 
 -- the mark beside the number is that of the float
-pub mark_is : (x : Float) {z : ℤ} {w : Bool} → s15_fixed16 x ≡ Number z w → w ≡ whole x
+pub mark_is : (x : Float) {z : ℤ} {w : Bool} → s15_fixed16 x ≡ some_number z w → w ≡ whole x
 unfolding s15_fixed16 whole
 mark_is nan e = absurd (no_number e)
 mark_is (inf s) e = absurd (no_number e)
 mark_is (fin s m e) {z} {w} h = go (leb (m * up e * 65536) (largest * down e)) h
   where
-    go : (t : Bool) → cond t (Number (signed s (halves_up (m * up e * 65536) (down e))) (whole_fraction (m * up e) (down e))) OutOfRange ≡ Number z w
+    go : (t : Bool) → cond t (some_number (signed s (halves_up (m * up e * 65536) (down e))) (whole_fraction (m * up e) (down e))) None ≡ some_number z w
         → w ≡ whole_fraction (m * up e) (down e)
     go true h = cc
     go false h = absurd (no_number h)
 
-pub number_if : (n : ℕ) (x : Float) {z : ℤ} → fixed_or n x ≡ is z → s15_fixed16 x ≡ Number z (whole x)
+pub number_if : (n : ℕ) (x : Float) {z : ℤ} → fixed_or n x ≡ is z → s15_fixed16 x ≡ some_number z (whole x)
 number_if n x {z} e = go (s15_fixed16 x) refl
   where
-    go : (s : S15Fixed16) → s15_fixed16 x ≡ s → s15_fixed16 x ≡ Number z (whole x)
-    go (Number y w) h = let is_y : fixed_or n x ≡ is y = simp h in h ∙ ap₂ Number (cc) (mark_is x h)
-    go OutOfRange h = let no : fixed_or n x ≡ refused n = simp h in cc
+    go : (s : Option S15Fixed16) → s15_fixed16 x ≡ s → s15_fixed16 x ≡ some_number z (whole x)
+    go (Some s) h = let is_y : fixed_or n x ≡ is s.number = simp h in h ∙ ap₂ some_number (cc) (mark_is x h)
+    go None h = let no : fixed_or n x ≡ refused n = simp h in cc
 
 pub within_if : (n : ℕ) (x : Float) {z : ℤ} → fixed_or n x ≡ is z → nat_abs z ≤ largest
 within_if n x {z} e = number_within x z (number_if n x e)

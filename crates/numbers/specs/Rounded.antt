@@ -2,6 +2,7 @@
 use Rattle.std.specs.Prelude.{ℕ, ◌+◌, Bool, cond, List, [], ◌∷◌, Float}
 use Rattle.buffer.specs.Checked.{Checked, is, then}
 use Rattle.numbers.specs.Fixed.{whole}
+pub use Rattle.numbers.specs.declared.fixed.Counted.{Counted}
 
 -- what a number adds to the count, by whether it is whole
 abbrev pub one_if_rounded : Bool → ℕ
@@ -11,11 +12,6 @@ one_if_rounded w = cond w 0 1
 unfoldable pub rounded_in : List Float → ℕ
 rounded_in [] = 0
 rounded_in (x ∷ xs) = one_if_rounded (whole x) + rounded_in xs
-
--- a value, and how many of the fixed numbers in it were rounded
-pub record Counted (A : Type 0) : Type 0 where
-  pub value : A
-  pub rounded : ℕ
 
 -- a value whose fixed numbers are made from these floats; what is refused has no count
 abbrev pub counted : {A : Type 0} → List Float → Checked A → Checked (Counted A)

@@ -5,10 +5,9 @@ use Rattle.std.proofs.Math.Path.{ap}
 use Rattle.std.proofs.Math.Seq.{drop-length}
 use Rattle.buffer.specs.Checked.{Checked, is, refused}
 use Rattle.buffer.specs.CheckedLaws.{never}
-use Rattle.numbers.specs.Fixed.{s15_fixed16, whole}
+use Rattle.numbers.specs.Fixed.{some_number, s15_fixed16, whole}
 use Rattle.numbers.specs.FixedLaws.{mark_is}
 use Rattle.numbers.specs.Rounded.{one_if_rounded, rounded_in, Counted, counted}
-use Rattle.numbers.specs.declared.fixed.S15Fixed16.TheVariants.{Number}
 
 pub rounded_in_append : (xs ys : List Float) → rounded_in (xs ++ ys) ≡ rounded_in xs + rounded_in ys
 unfolding rounded_in
@@ -20,7 +19,7 @@ most_one true = omega arith
 most_one false = omega arith
 
 -- of a float that has a fixed number, by the mark beside the number
-pub mark_counts : (x : Float) {z : ℤ} {w : Bool} → s15_fixed16 x ≡ Number z w → one_if_rounded w ≡ one_if_rounded (whole x)
+pub mark_counts : (x : Float) {z : ℤ} {w : Bool} → s15_fixed16 x ≡ some_number z w → one_if_rounded w ≡ one_if_rounded (whole x)
 mark_counts x e = ap one_if_rounded (mark_is x e)
 
 pub rounded_in_one : (x : Float) → rounded_in (x ∷ []) ≡ one_if_rounded (whole x)

@@ -5,26 +5,17 @@ ghost use Rattle.std.specs.Float.{binary32, binary64};
 ghost use Rattle.std.specs.Float.Ieee.{of_bits, to_bits};
 ghost use Rattle.words.specs.Words.{twos_complement32, signed32};
 
-// A cast takes no negative number: its distance below -1 is taken from all ones.
 pub fn i32_to_bits(v: i32) -> u32
     ensures { result ≡ twos_complement32 v }
 {
-    if v < 0 {
-        4294967295 - ((-1 - v) as u32)
-    } else {
-        v as u32
-    }
+    v.cast_unsigned()
 }
 
 // The way back.
 pub fn i32_from_bits(b: u32) -> i32
     ensures { result ≡ signed32 b }
 {
-    if b < 2147483648 {
-        b as i32
-    } else {
-        -1 - ((4294967295 - b) as i32)
-    }
+    b.cast_signed()
 }
 
 // f32::from_bits takes no NaN's pattern; every one of them stands for the one NaN.
@@ -53,5 +44,5 @@ pub fn f64_from_bits(bits: u64) -> f64
 pub fn f32_to_bits(x: f32) -> u32
     ensures { result ≡ to_bits binary32 x }
 {
-    if x != x { 0x7fc0_0000 } else { f32::to_bits(x) }
+    if x.is_nan() { 0x7fc0_0000 } else { f32::to_bits(x) }
 }

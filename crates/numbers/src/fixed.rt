@@ -13,10 +13,17 @@ use floats::rounding::halves_up_shifted;
 pub const LARGEST: i32 = 2147483264;
 
 // A fixed number, and whether it is exact: value * 65536 is whole.
-#[derive(Clone, Copy)]
-pub enum S15Fixed16 {
-    Number { number: i32, whole: bool },
-    OutOfRange,
+#[derive(Clone, Copy, Debug, PartialEq, Eq)]
+pub struct S15Fixed16 {
+    pub number: i32,
+    pub whole: bool,
+}
+
+// A value, and how many of the fixed numbers in it were rounded.
+#[derive(Clone, Copy, Debug, PartialEq, Eq)]
+pub struct Counted<T> {
+    pub value: T,
+    pub rounded: u32,
 }
 
 // The digits of a binary32 value with these fields, the leading one, 2^23, put back.
@@ -70,32 +77,32 @@ fn with_sign(negative: bool, n: u64) -> i32
 
 // The fixed number of value, halves away from zero. A value that is not finite or lies outside the range has none: an exponent field
 // above 141 is that of 32768 and more.
-pub fn to_s15_fixed_16(value: f32) -> S15Fixed16
+pub fn to_s15_fixed_16(value: f32) -> Option<S15Fixed16>
     ensures { result ≡ s15_fixed16 value }
 {
-    if value != value {
-        return S15Fixed16::OutOfRange;
+    if value.is_nan() {
+        return None;
     }
     let b = f32::to_bits(value) as u64;
     let field = b % 2147483648 / 8388608;
     let digits = b % 8388608;
     if 141 < field {
-        return S15Fixed16::OutOfRange;
+        return None;
     }
     let q = significand(field, digits);
     let k = exponent(field);
     let n = scaled(q, k);
     if (LARGEST as u64) < n {
-        return S15Fixed16::OutOfRange;
+        return None;
     }
-    S15Fixed16::Number {
+    Some(S15Fixed16 {
         number: with_sign(2147483648 <= b, n),
         whole: is_whole(q, k),
-    }
+    })
 }
 
 // What a number adds to a count of those that were rounded.
-pub fn one_if_rounded(whole: bool) -> u8
+pub fn one_if_rounded(whole: bool) -> u32
     ensures { result ≡ one_if_rounded whole }
 {
     if whole { 0 } else { 1 }

@@ -6,4 +6,4 @@ pub mod bits;
 pub mod fixed;
 
 pub use bits::{f32_from_bits, f32_to_bits, f64_from_bits, i32_from_bits, i32_to_bits};
-pub use fixed::{LARGEST, S15Fixed16, one_if_rounded, to_s15_fixed_16};
+pub use fixed::{Counted, LARGEST, S15Fixed16, one_if_rounded, to_s15_fixed_16};

@@ -8,8 +8,7 @@ use lib.IntN.{ℤ}
 use lib.Ieee.{Float, binary32, fits, to_bits}
 use mir.Syntax.{w32}
 use mir.ValLaws.{to_z-of_z}
-use Rattle.numbers.specs.Fixed.{whole_fraction}
-use Rattle.numbers.specs.declared.fixed.S15Fixed16.TheVariants.{Number}
+use Rattle.numbers.specs.Fixed.{some_number, whole_fraction}
 use Rattle.numbers.proofs.FixedNumber.{nan-refused, b_lt, digits_lt, scaled_of, refused_far, refused_near, kept}
 use Rattle.floats.specs.Fields.{significand}
 use Rattle.floats.specs.FieldsLaws.{equals_itself}
@@ -59,5 +58,5 @@ returns-then-n c =
 pub returns : goal.returns
 returns c =
     let told = c.is_whole.ensures ∙ ap₂ (λ (q k : ℕ). whole_fraction (q * 2 ^ k) (2 ^ 149)) c.significand-q.ensures c.exponent-k.ensures in
-    ap (λ (z : ℤ). Number z c.is_whole.result) (to_z-of_z w32 c.with_sign.result (record { sfits = c.with_sign.type_inv }) ∙ c.with_sign.ensures)
+    ap (λ (z : ℤ). some_number z c.is_whole.result) (to_z-of_z w32 c.with_sign.result (record { sfits = c.with_sign.type_inv }) ∙ c.with_sign.ensures)
     ∙ kept (x (start (goal.at.returns c).After-scaled-n)) (held (start (goal.at.returns c).After-scaled-n)) c.if-field-gt141.false c.scaled-n.result (number (goal.at.returns c).After-scaled-n) c.if-n.false told
