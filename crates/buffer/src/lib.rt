@@ -8,6 +8,13 @@ ghost use Rattle.buffer.specs.Ascii.{is_ascii};
 ghost use Rattle.buffer.specs.Bytes.{zeros, same};
 ghost use Rattle.buffer.specs.Puts.{Puts};
 
+// A text in fixed memory: the first `len` bytes; zeros after it.
+#[derive(Clone, Copy, Debug, PartialEq, Eq)]
+pub struct Text<const N: usize> {
+    pub bytes: [u8; N],
+    pub len: usize,
+}
+
 // The byte at a place, and 0 past the end.
 pub fn byte_at(bytes: &[u8], at: usize) -> u8
     ensures { result ≡ get_or bytes.now at 0 }

@@ -11,18 +11,8 @@ use Rattle.color_encoding.specs.declared.JxlPrimaries.{JxlPrimaries}
 use Rattle.color_encoding.specs.declared.JxlPrimaries.TheVariants as P
 use Rattle.color_encoding.specs.declared.JxlTransferFunction.{JxlTransferFunction}
 use Rattle.color_encoding.specs.declared.JxlTransferFunction.TheVariants as F
-use Rattle.color_encoding.specs.declared.IntentCode.{IntentCode}
-use Rattle.color_encoding.specs.declared.IntentCode.TheVariants as IC
-use Rattle.color_encoding.specs.declared.WhitePointCode.{WhitePointCode}
-use Rattle.color_encoding.specs.declared.WhitePointCode.TheVariants as WC
-use Rattle.color_encoding.specs.declared.PrimariesCode.{PrimariesCode}
-use Rattle.color_encoding.specs.declared.PrimariesCode.TheVariants as PC
-use Rattle.color_encoding.specs.declared.TransferFunctionCode.{TransferFunctionCode}
-use Rattle.color_encoding.specs.declared.TransferFunctionCode.TheVariants as FC
 use Rattle.color_encoding.specs.declared.JxlColorEncoding.{JxlColorEncoding}
 use Rattle.color_encoding.specs.declared.JxlColorEncoding.TheVariants.{RgbColorSpace, GrayscaleColorSpace, XYB}
-use Rattle.color_encoding.specs.declared.EncodingCode.{EncodingCode}
-use Rattle.color_encoding.specs.declared.EncodingCode.TheVariants as EC
 
 -- 43: a kind, curve or intent has no meaning
 abbrev pub unknown : {A : Type 0} → Checked A
@@ -81,28 +71,6 @@ transfer_function_number F.PQ = 3
 transfer_function_number F.DCI = 4
 transfer_function_number F.HLG = 5
 transfer_function_number (F.Gamma g) = 6
-
--- ---- what a call answers: a meaning, or none
-
-abbrev pub known_intent : IntentCode → Checked RenderingIntent
-known_intent (IC.Known i) = is i
-known_intent IC.Unknown = unknown
-
-abbrev pub known_white_point : WhitePointCode → Checked JxlWhitePoint
-known_white_point (WC.Known w) = is w
-known_white_point WC.Unknown = unknown
-
-abbrev pub known_primaries : PrimariesCode → Checked JxlPrimaries
-known_primaries (PC.Known p) = is p
-known_primaries PC.Unknown = unknown
-
-abbrev pub known_transfer_function : TransferFunctionCode → Checked JxlTransferFunction
-known_transfer_function (FC.Known t) = is t
-known_transfer_function FC.Unknown = unknown
-
-abbrev pub known_encoding : EncodingCode → Checked JxlColorEncoding
-known_encoding (EC.Known e) = is e
-known_encoding EC.Unknown = unknown
 
 -- ---- the encoding that the parts give together
 

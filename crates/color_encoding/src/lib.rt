@@ -8,18 +8,20 @@ ghost use Rattle.std.specs.Prelude.{◌≡◌};
 ghost use Rattle.color_encoding.specs.Coordinates.{white_xy, primaries_xy};
 ghost use Rattle.color_encoding.specs.Intent.{intent_number, intent_name};
 ghost use Rattle.color_encoding.specs.Codes.{intent_from, white_point_from, primaries_from, transfer_function_from};
-ghost use Rattle.color_encoding.specs.Codes.{known_intent, known_white_point, known_primaries, known_transfer_function};
+ghost use Rattle.refusals.specs.Refusals.{checked};
 ghost use Rattle.color_encoding.specs.Codes.{white_point_number, primaries_number, transfer_function_number};
 
-#[derive(Clone, Copy)]
+use refusals::Refusal;
+
+#[derive(Clone, Copy, Debug, PartialEq, Eq)]
 pub enum RenderingIntent {
-    Perceptual,
-    Relative,
-    Saturation,
-    Absolute,
+    Perceptual = 0,
+    Relative = 1,
+    Saturation = 2,
+    Absolute = 3,
 }
 
-#[derive(Clone, Copy)]
+#[derive(Clone, Copy, Debug, PartialEq)]
 pub enum JxlWhitePoint {
     D65,
     E,
@@ -27,7 +29,7 @@ pub enum JxlWhitePoint {
     Chromaticity { wx: f32, wy: f32 },
 }
 
-#[derive(Clone, Copy)]
+#[derive(Clone, Copy, Debug, PartialEq)]
 pub enum JxlPrimaries {
     SRGB,
     BT2100,
@@ -42,7 +44,7 @@ pub enum JxlPrimaries {
     },
 }
 
-#[derive(Clone, Copy)]
+#[derive(Clone, Copy, Debug, PartialEq)]
 pub enum JxlTransferFunction {
     BT709,
     Linear,
@@ -53,7 +55,7 @@ pub enum JxlTransferFunction {
     Gamma(f32),
 }
 
-#[derive(Clone, Copy)]
+#[derive(Clone, Copy, Debug, PartialEq)]
 pub enum JxlColorEncoding {
     RgbColorSpace {
         white_point: JxlWhitePoint,
@@ -72,14 +74,14 @@ pub enum JxlColorEncoding {
 }
 
 // The xy coordinates of a white point.
-#[derive(Clone, Copy)]
+#[derive(Clone, Copy, Debug, PartialEq)]
 pub struct WhiteXy {
     pub wx: f32,
     pub wy: f32,
 }
 
 // The xy coordinates of the three primaries.
-#[derive(Clone, Copy)]
+#[derive(Clone, Copy, Debug, PartialEq)]
 pub struct PrimariesXy {
     pub rx: f32,
     pub ry: f32,
@@ -89,51 +91,12 @@ pub struct PrimariesXy {
     pub by: f32,
 }
 
-// The refusal of a number that stands for nothing.
-pub const UNKNOWN: u32 = 43;
-
-// What a number stands for.
-#[derive(Clone, Copy)]
-pub enum IntentCode {
-    Known(RenderingIntent),
-    Unknown,
-}
-
-#[derive(Clone, Copy)]
-pub enum WhitePointCode {
-    Known(JxlWhitePoint),
-    Unknown,
-}
-
-#[derive(Clone, Copy)]
-pub enum PrimariesCode {
-    Known(JxlPrimaries),
-    Unknown,
-}
-
-#[derive(Clone, Copy)]
-pub enum TransferFunctionCode {
-    Known(JxlTransferFunction),
-    Unknown,
-}
-
-#[derive(Clone, Copy)]
-pub enum EncodingCode {
-    Known(JxlColorEncoding),
-    Unknown,
-}
-
 impl RenderingIntent {
     // The number in a profile's header.
     pub fn number(self) -> u32
         ensures { result ≡ intent_number self }
     {
-        match self {
-            RenderingIntent::Perceptual => 0,
-            RenderingIntent::Relative => 1,
-            RenderingIntent::Saturation => 2,
-            RenderingIntent::Absolute => 3,
-        }
+        self as u32
     }
 
     // The Rust's `Display`.
@@ -147,16 +110,20 @@ impl RenderingIntent {
             RenderingIntent::Absolute => *b"Abs",
         }
     }
+}
 
-    pub fn from_number(n: u32) -> IntentCode
-        ensures { known_intent result ≡ intent_from n }
-    {
-        match n {
-            0 => IntentCode::Known(RenderingIntent::Perceptual),
-            1 => IntentCode::Known(RenderingIntent::Relative),
-            2 => IntentCode::Known(RenderingIntent::Saturation),
-            3 => IntentCode::Known(RenderingIntent::Absolute),
-            _ => IntentCode::Unknown,
+impl TryFrom<u32> for RenderingIntent {
+    type Error = Refusal;
+
+    ghost try_from_gives = { λ n r. checked r ≡ intent_from n };
+
+    fn try_from(number: u32) -> Result<RenderingIntent, Refusal> {
+        match number {
+            0 => Ok(RenderingIntent::Perceptual),
+            1 => Ok(RenderingIntent::Relative),
+            2 => Ok(RenderingIntent::Saturation),
+            3 => Ok(RenderingIntent::Absolute),
+            _ => Err(Refusal::Unknown),
         }
     }
 }
@@ -189,20 +156,23 @@ impl JxlWhitePoint {
             JxlWhitePoint::D65 => 0,
             JxlWhitePoint::E => 1,
             JxlWhitePoint::DCI => 2,
-            JxlWhitePoint::Chromaticity { wx: _, wy: _ } => 3,
+            JxlWhitePoint::Chromaticity { .. } => 3,
         }
     }
 
     // The coordinates are read only for a white point of one's own.
-    pub fn from_number(kind: u32, wx: f32, wy: f32) -> WhitePointCode
-        ensures { known_white_point result ≡ white_point_from kind wx wy }
+    pub fn from_number(kind: u32, own: WhiteXy) -> Result<JxlWhitePoint, Refusal>
+        ensures { checked result ≡ white_point_from kind own.wx own.wy }
     {
         match kind {
-            0 => WhitePointCode::Known(JxlWhitePoint::D65),
-            1 => WhitePointCode::Known(JxlWhitePoint::E),
-            2 => WhitePointCode::Known(JxlWhitePoint::DCI),
-            3 => WhitePointCode::Known(JxlWhitePoint::Chromaticity { wx, wy }),
-            _ => WhitePointCode::Unknown,
+            0 => Ok(JxlWhitePoint::D65),
+            1 => Ok(JxlWhitePoint::E),
+            2 => Ok(JxlWhitePoint::DCI),
+            3 => Ok(JxlWhitePoint::Chromaticity {
+                wx: own.wx,
+                wy: own.wy,
+            }),
+            _ => Err(Refusal::Unknown),
         }
     }
 }
@@ -268,42 +238,27 @@ impl JxlPrimaries {
             JxlPrimaries::SRGB => 0,
             JxlPrimaries::BT2100 => 1,
             JxlPrimaries::P3 => 2,
-            JxlPrimaries::Chromaticities {
-                rx: _,
-                ry: _,
-                gx: _,
-                gy: _,
-                bx: _,
-                by: _,
-            } => 3,
+            JxlPrimaries::Chromaticities { .. } => 3,
         }
     }
 
     // The coordinates are read only for primaries of one's own.
-    pub fn from_number(
-        kind: u32,
-        rx: f32,
-        ry: f32,
-        gx: f32,
-        gy: f32,
-        bx: f32,
-        by: f32,
-    ) -> PrimariesCode
-        ensures { known_primaries result ≡ primaries_from kind rx ry gx gy bx by }
+    pub fn from_number(kind: u32, own: PrimariesXy) -> Result<JxlPrimaries, Refusal>
+        ensures { checked result ≡ primaries_from kind own.rx own.ry own.gx own.gy own.bx own.by }
     {
         match kind {
-            0 => PrimariesCode::Known(JxlPrimaries::SRGB),
-            1 => PrimariesCode::Known(JxlPrimaries::BT2100),
-            2 => PrimariesCode::Known(JxlPrimaries::P3),
-            3 => PrimariesCode::Known(JxlPrimaries::Chromaticities {
-                rx,
-                ry,
-                gx,
-                gy,
-                bx,
-                by,
+            0 => Ok(JxlPrimaries::SRGB),
+            1 => Ok(JxlPrimaries::BT2100),
+            2 => Ok(JxlPrimaries::P3),
+            3 => Ok(JxlPrimaries::Chromaticities {
+                rx: own.rx,
+                ry: own.ry,
+                gx: own.gx,
+                gy: own.gy,
+                bx: own.bx,
+                by: own.by,
             }),
-            _ => PrimariesCode::Unknown,
+            _ => Err(Refusal::Unknown),
         }
     }
 }
@@ -324,18 +279,18 @@ impl JxlTransferFunction {
     }
 
     // The gamma is read only for the last number.
-    pub fn from_number(curve: u32, gamma: f32) -> TransferFunctionCode
-        ensures { known_transfer_function result ≡ transfer_function_from curve gamma }
+    pub fn from_number(curve: u32, gamma: f32) -> Result<JxlTransferFunction, Refusal>
+        ensures { checked result ≡ transfer_function_from curve gamma }
     {
         match curve {
-            0 => TransferFunctionCode::Known(JxlTransferFunction::BT709),
-            1 => TransferFunctionCode::Known(JxlTransferFunction::Linear),
-            2 => TransferFunctionCode::Known(JxlTransferFunction::SRGB),
-            3 => TransferFunctionCode::Known(JxlTransferFunction::PQ),
-            4 => TransferFunctionCode::Known(JxlTransferFunction::DCI),
-            5 => TransferFunctionCode::Known(JxlTransferFunction::HLG),
-            6 => TransferFunctionCode::Known(JxlTransferFunction::Gamma(gamma)),
-            _ => TransferFunctionCode::Unknown,
+            0 => Ok(JxlTransferFunction::BT709),
+            1 => Ok(JxlTransferFunction::Linear),
+            2 => Ok(JxlTransferFunction::SRGB),
+            3 => Ok(JxlTransferFunction::PQ),
+            4 => Ok(JxlTransferFunction::DCI),
+            5 => Ok(JxlTransferFunction::HLG),
+            6 => Ok(JxlTransferFunction::Gamma(gamma)),
+            _ => Err(Refusal::Unknown),
         }
     }
 }

@@ -4,122 +4,95 @@
 
 ghost use Rattle.std.specs.Prelude.{◌≡◌};
 ghost use Rattle.color_encoding.specs.Codes.{white_point_from, primaries_from, transfer_function_from, intent_from};
-ghost use Rattle.color_encoding.specs.Codes.{known_intent, known_white_point, known_primaries, known_transfer_function, known_encoding, gray_from, rgb_from, xyb_from};
+ghost use Rattle.color_encoding.specs.Codes.{gray_from, rgb_from, xyb_from};
+ghost use Rattle.refusals.specs.Refusals.{checked};
 
 use color_encoding::{
-    EncodingCode, IntentCode, JxlColorEncoding, JxlPrimaries, JxlTransferFunction, JxlWhitePoint,
-    PrimariesCode, RenderingIntent, TransferFunctionCode, WhitePointCode,
+    JxlColorEncoding, JxlPrimaries, JxlTransferFunction, JxlWhitePoint, PrimariesXy,
+    RenderingIntent, WhiteXy,
 };
+use refusals::Refusal;
 
 // ---- by codes
 
 pub fn gray_from_codes(
-    white: WhitePointCode,
-    transfer: TransferFunctionCode,
-    intent: IntentCode,
-) -> EncodingCode
-    ensures { known_encoding result ≡ gray_from (known_white_point white) (known_transfer_function transfer) (known_intent intent) }
+    white: Result<JxlWhitePoint, Refusal>,
+    transfer: Result<JxlTransferFunction, Refusal>,
+    intent: Result<RenderingIntent, Refusal>,
+) -> Result<JxlColorEncoding, Refusal>
+    ensures { checked result ≡ gray_from (checked white) (checked transfer) (checked intent) }
 {
-    let WhitePointCode::Known(white_point) = white else {
-        return EncodingCode::Unknown;
-    };
-    let TransferFunctionCode::Known(transfer_function) = transfer else {
-        return EncodingCode::Unknown;
-    };
-    let IntentCode::Known(rendering_intent) = intent else {
-        return EncodingCode::Unknown;
-    };
-    EncodingCode::Known(JxlColorEncoding::GrayscaleColorSpace {
-        white_point,
-        transfer_function,
-        rendering_intent,
+    Ok(JxlColorEncoding::GrayscaleColorSpace {
+        white_point: white?,
+        transfer_function: transfer?,
+        rendering_intent: intent?,
     })
 }
 
 pub fn rgb_from_codes(
-    white: WhitePointCode,
-    primary: PrimariesCode,
-    transfer: TransferFunctionCode,
-    intent: IntentCode,
-) -> EncodingCode
-    ensures { known_encoding result ≡ rgb_from (known_white_point white) (known_primaries primary) (known_transfer_function transfer) (known_intent intent) }
+    white: Result<JxlWhitePoint, Refusal>,
+    primaries: Result<JxlPrimaries, Refusal>,
+    transfer: Result<JxlTransferFunction, Refusal>,
+    intent: Result<RenderingIntent, Refusal>,
+) -> Result<JxlColorEncoding, Refusal>
+    ensures { checked result ≡ rgb_from (checked white) (checked primaries) (checked transfer) (checked intent) }
 {
-    let WhitePointCode::Known(white_point) = white else {
-        return EncodingCode::Unknown;
-    };
-    let PrimariesCode::Known(primaries) = primary else {
-        return EncodingCode::Unknown;
-    };
-    let TransferFunctionCode::Known(transfer_function) = transfer else {
-        return EncodingCode::Unknown;
-    };
-    let IntentCode::Known(rendering_intent) = intent else {
-        return EncodingCode::Unknown;
-    };
-    EncodingCode::Known(JxlColorEncoding::RgbColorSpace {
-        white_point,
-        primaries,
-        transfer_function,
-        rendering_intent,
+    Ok(JxlColorEncoding::RgbColorSpace {
+        white_point: white?,
+        primaries: primaries?,
+        transfer_function: transfer?,
+        rendering_intent: intent?,
     })
 }
 
-pub fn xyb_from_code(intent: IntentCode) -> EncodingCode
-    ensures { known_encoding result ≡ xyb_from (known_intent intent) }
+pub fn xyb_from_code(intent: Result<RenderingIntent, Refusal>) -> Result<JxlColorEncoding, Refusal>
+    ensures { checked result ≡ xyb_from (checked intent) }
 {
-    let IntentCode::Known(rendering_intent) = intent else {
-        return EncodingCode::Unknown;
-    };
-    EncodingCode::Known(JxlColorEncoding::XYB { rendering_intent })
+    Ok(JxlColorEncoding::XYB {
+        rendering_intent: intent?,
+    })
 }
 
-// ---- by numbers
+// ---- by numbers; the coordinates are read only for a white point or primaries of one's own
 
 pub fn gray_from_numbers(
     white: u32,
-    wx: f32,
-    wy: f32,
+    own: WhiteXy,
     curve: u32,
     gamma: f32,
     intent: u32,
-) -> EncodingCode
-    ensures { known_encoding result ≡ gray_from (white_point_from white wx wy) (transfer_function_from curve gamma) (intent_from intent) }
+) -> Result<JxlColorEncoding, Refusal>
+    ensures { checked result ≡ gray_from (white_point_from white own.wx own.wy) (transfer_function_from curve gamma) (intent_from intent) }
 {
     let transfer = JxlTransferFunction::from_number(curve, gamma);
     gray_from_codes(
-        JxlWhitePoint::from_number(white, wx, wy),
+        JxlWhitePoint::from_number(white, own),
         transfer,
-        RenderingIntent::from_number(intent),
+        RenderingIntent::try_from(intent),
     )
 }
 
 pub fn rgb_from_numbers(
     white: u32,
-    wx: f32,
-    wy: f32,
+    own_white: WhiteXy,
     primaries: u32,
-    rx: f32,
-    ry: f32,
-    gx: f32,
-    gy: f32,
-    bx: f32,
-    by: f32,
+    own: PrimariesXy,
     curve: u32,
     gamma: f32,
     intent: u32,
-) -> EncodingCode
-    ensures { known_encoding result ≡ rgb_from (white_point_from white wx wy) (primaries_from primaries rx ry gx gy bx by) (transfer_function_from curve gamma) (intent_from intent) }
+) -> Result<JxlColorEncoding, Refusal>
+    ensures { checked result ≡ rgb_from (white_point_from white own_white.wx own_white.wy) (primaries_from primaries own.rx own.ry own.gx own.gy own.bx own.by) (transfer_function_from curve gamma) (intent_from intent) }
 {
     rgb_from_codes(
-        JxlWhitePoint::from_number(white, wx, wy),
-        JxlPrimaries::from_number(primaries, rx, ry, gx, gy, bx, by),
+        JxlWhitePoint::from_number(white, own_white),
+        JxlPrimaries::from_number(primaries, own),
         JxlTransferFunction::from_number(curve, gamma),
-        RenderingIntent::from_number(intent),
+        RenderingIntent::try_from(intent),
     )
 }
 
-pub fn xyb_from_number(intent: u32) -> EncodingCode
-    ensures { known_encoding result ≡ xyb_from (intent_from intent) }
+pub fn xyb_from_number(intent: u32) -> Result<JxlColorEncoding, Refusal>
+    ensures { checked result ≡ xyb_from (intent_from intent) }
 {
-    xyb_from_code(RenderingIntent::from_number(intent))
+    xyb_from_code(RenderingIntent::try_from(intent))
 }

@@ -3,13 +3,14 @@
 use Prim.Native.Nat.{ℕ, zero, suc, ◌+◌, ◌-◌, ◌*◌, ◌/◌, ◌%◌, ◌^◌, ◌≤◌, ◌<◌}
 use mathlib.Core.Path.{◌≡◌, refl, sym, ap, ◌∙◌, subst}
 use mathlib.Core.Logic.{◌⊎◌, inl, inr, ⊎_elim}
-use mathlib.Core.Bool.{Bool, true, false, not, cond}
+use mathlib.Core.Bool.{Bool, true, false, not, cond, true≢false}
 use native.Mathlib.Nat.{le_trans, le_of_eq, lt_of_lt_of_le, mul_assoc, mul_right_comm, mul-one, mul-le-mul_right, mul-le-mul_left, le_of_mul-le-mul_right, eq_of_mul-eq-mul_right, mod-one, mod-eq_of_lt, mul-mod_left, div-add-mod'}
 use native.Mathlib.Omega.{arith}
 use lib.Dec.{T, leb, ltb, eqb, leb→le, le→leb, lit<, ltb→lt, nltb→le, eqb→eq, eqb_refl}
 use lib.Pow.{pow-add, pow_pos, pow_mono, shl_lt, shl_exact}
 use lib.IntN.{ℤ, pos, neg_ℤ, ◌-ℤ◌, +ℤ_idl}
-use lib.Ieee.{Float, nan, inf, fin, binary32, up, down, fits, of_fields, to_bits, ne}
+use Rattle.std.specs.Prelude.{Some, None}
+use lib.Ieee.{Float, nan, inf, fin, binary32, up, down, fits, of_fields, to_bits, is_nan}
 use lib.Ieee.Fits.{down_pos}
 use lib.Ieee.Exact.{HasValue}
 use lib.Ieee.Bits.{to_bits-lt}
@@ -200,9 +201,11 @@ module _ (n : ℕ) (h : n < 2 ^ 31) where
 
 -- ---- from the pattern
 
-pub nan-refused : (x : Float) → ne x x ≡ true → None ≡ s15_fixed16 x
-unfolding s15_fixed16
-nan-refused x h = ap s15_fixed16 (sym (differs_from_itself x (subst T (sym h) tt)))
+pub nan-refused : (x : Float) → is_nan x ≡ true → None ≡ s15_fixed16 x
+unfolding s15_fixed16 is_nan
+nan-refused nan h = refl
+nan-refused (inf s) h = absurd (true≢false (sym h))
+nan-refused (fin s m e) h = absurd (true≢false (sym h))
 
 not_finite : (s z : Bool) → None ≡ s15_fixed16 (cond z (inf s) nan)
 unfolding s15_fixed16

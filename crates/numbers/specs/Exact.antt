@@ -9,7 +9,7 @@ use Rattle.std.specs.Float.Ieee.Fits.{up_pos, down_pos}
 use Rattle.floats.specs.Rounding.{halves_up}
 use Rattle.floats.specs.RoundingLaws.{halves_up_below}
 use Rattle.numbers.specs.Fixed.{some_number, signed, largest, whole_fraction, s15_fixed16, whole}
-use Rattle.numbers.specs.FixedLaws.{nat_abs_signed, no_number}
+use Rattle.numbers.specs.FixedLaws.{same_number, nat_abs_signed, no_number}
 
 -- the magnitude is that of the value exactly if there is no rest
 module _ (a b : ℕ) (B : 0 < b) where
@@ -34,8 +34,8 @@ whole_exactly_if s m e {z} {w} h = go (leb (m * up e * 65536) (largest * down e)
     go : (t : Bool) → cond t (some_number (signed s q) (whole_fraction (m * up e) (down e))) None ≡ some_number z w
         → (w ≡ true) ↔ (nat_abs z * down e ≡ m * up e * 65536)
     go true h =
-        let mark : whole_fraction (m * up e) (down e) ≡ w = cc in
-        let number : signed s q ≡ z = cc in
+        let mark : whole_fraction (m * up e) (down e) ≡ w = (same_number h).1 in
+        let number : signed s q ≡ z = (same_number h).0 in
         let size : q ≡ nat_abs z = sym (nat_abs_signed s q) ∙ ap nat_abs number in (
           (λ t. ap (λ (k : ℕ). k * down e) (sym size) ∙ exact_if (m * up e * 65536) (down e) (down_pos e) (mark ∙ t)),
           (λ x. sym mark ∙ if_exact (m * up e * 65536) (down e) (down_pos e) (ap (λ (k : ℕ). k * down e) size ∙ x)),

@@ -1,6 +1,6 @@
 -- The range of fixed numbers, and what a float that has one tells. Assumes nothing.
 use Rattle.std.specs.Prelude.{Option, Some, None, ℕ, zero, suc, ◌*◌, ◌≤◌, ◌<◌, ◌≡◌, refl, Bool, true, false, cond, List, [], ◌∷◌, map, T, leb, ℤ, nat_abs, Float}
-use Rattle.std.proofs.Common.{ap, ap₂, ◌∙◌, arith, leb→le, lit≤}
+use Rattle.std.proofs.Common.{sym, ap, ap₂, ◌∙◌, arith, leb→le, lit≤}
 use Rattle.std.specs.Float.{nan, inf, fin}
 use Rattle.std.specs.Float.Ieee.{up, down}
 use Rattle.std.specs.Float.Ieee.Fits.{down_pos}
@@ -39,6 +39,14 @@ number_within x z e = rw e at (fixed_number_within x)
 pub no_number : {z : ℤ} {w : Bool} → None ≡ some_number z w → ⊥
 no_number e = let zero_one : ◌≡◌ {A = ℕ} 0 1 = cc in omega arith
 
+abbrev marked : Option S15Fixed16 → Bool
+marked (Some s) = s.whole
+marked None = false
+
+-- number and mark are told by the answer
+pub same_number : {a z : ℤ} {b w : Bool} → some_number a b ≡ some_number z w → (a ≡ z) × (b ≡ w)
+same_number e = (ap number_of e, ap marked e)
+
 -- the mark beside the number is that of the float
 pub mark_is : (x : Float) {z : ℤ} {w : Bool} → s15_fixed16 x ≡ some_number z w → w ≡ whole x
 unfolding s15_fixed16 whole
@@ -48,7 +56,7 @@ mark_is (fin s m e) {z} {w} h = go (leb (m * up e * 65536) (largest * down e)) h
   where
     go : (t : Bool) → cond t (some_number (signed s (halves_up (m * up e * 65536) (down e))) (whole_fraction (m * up e) (down e))) None ≡ some_number z w
         → w ≡ whole_fraction (m * up e) (down e)
-    go true h = cc
+    go true h = sym (same_number h).1
     go false h = absurd (no_number h)
 
 pub number_if : (n : ℕ) (x : Float) {z : ℤ} → fixed_or n x ≡ is z → s15_fixed16 x ≡ some_number z (whole x)

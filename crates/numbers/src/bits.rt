@@ -44,5 +44,9 @@ pub fn f64_from_bits(bits: u64) -> f64
 pub fn f32_to_bits(x: f32) -> u32
     ensures { result ≡ to_bits binary32 x }
 {
-    if x.is_nan() { 0x7fc0_0000 } else { f32::to_bits(x) }
+    if x.is_nan() {
+        0x7fc0_0000
+    } else {
+        f32::to_bits(x)
+    }
 }

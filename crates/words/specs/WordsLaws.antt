@@ -124,7 +124,7 @@ be32_front (x ∷ (y ∷ (z ∷ (w ∷ l)))) h n = be32_word32 x y z w (h 0) (h 
 
 -- ---- two's complement: the library's, at 32 bits
 
-twos_complement32_is : (z : ℤ) → twos_complement32 z ≡ of_z w32 z
+pub twos_complement32_is : (z : ℤ) → twos_complement32 z ≡ of_z w32 z
 unfolding twos_complement32
 twos_complement32_is (pos n) = refl
 twos_complement32_is (negsuc n) = refl

@@ -1,14 +1,14 @@
--- A value that differs from itself is the NaN. Assumes nothing.
-use mathlib.Core.Path.{sym, ap, subst}
-use lib.Dec.{T}
-use lib.Ieee.{binary32, to_bits}
-use lib.Ieee.Compare.{differs_from_itself}
-use Rattle.floats.specs.FieldsLaws.{equals_itself}
+-- The bits of the NaN are always the same. Assumes nothing.
+use Rattle.std.proofs.Common.{refl, sym, ◌∙◌, ◌≡◌, true}
+use lib.Ieee.{Float, nan, inf, fin, binary32, is_nan, to_bits}
+use mathlib.Core.Bool.{true≢false}
 use Rattle.numbers.proofs.bits.f32_to_bits.Goals as goal
 
-pub float_to_bits-result : goal.float_to_bits-result
-float_to_bits-result c = equals_itself c.args.x c.if-x.false
+nan_bits : (x : Float) → is_nan x ≡ true → 0x7fc0_0000 ≡ to_bits binary32 x
+unfolding to_bits is_nan
+nan_bits nan h = refl
+nan_bits (inf s) h = absurd (true≢false (sym h))
+nan_bits (fin s m e) h = absurd (true≢false (sym h))
 
-pub returns-then-x : goal.returns-then-x
-unfolding to_bits
-returns-then-x c = sym (ap (to_bits binary32) (differs_from_itself c.args.x (subst T (sym c.if-x.true) tt)))
+pub returns-then-is_nan : goal.returns-then-is_nan
+returns-then-is_nan c = nan_bits c.args.x (sym c.is_nan.ensures.value ∙ c.if-is_nan.true)

@@ -25,13 +25,13 @@ held s = subst T (sym s.well_formed.0.1) tt
 -- the digits and the exponent are within what `scaled` and `is_whole` ask
 within : (c : After-exponent-k) → (c.significand-q.result < 2 ^ 24) × (c.exponent-k.result ≤ 140)
 within c = (
-  subst (λ (q : ℕ). q < 2 ^ 24) (sym c.significand-q.ensures) (digits_lt (x c.before.before.before.before) (held c.before.before.before.before)),
+  subst (λ (q : ℕ). q < 2 ^ 24) (sym c.significand-q.ensures) (digits_lt (x c.before.before.before.before.before) (held c.before.before.before.before.before)),
   omega (arith, c.exponent-k.ensures, c.if-field-gt141.false),
 )
 
 module _ (c : After-scaled-n) where
   abbrev start : Start
-  start = c.before.before.before.before.before
+  start = c.before.before.before.before.before.before
 
   abbrev b : ℕ
   b = to_bits binary32 (x start)
@@ -39,11 +39,8 @@ module _ (c : After-scaled-n) where
   number : c.scaled-n.result ≡ scaled_of (significand binary32 (b % 2 ^ 31 / 2 ^ 23) (b % 2 ^ 23)) (b % 2 ^ 31 / 2 ^ 23 - 1)
   number = c.scaled-n.ensures.0 ∙ ap₂ (λ (q k : ℕ). scaled_of q k) c.significand-q.ensures c.exponent-k.ensures
 
-pub returns-then-value : goal.returns-then-value
-returns-then-value c = nan-refused (x (goal.at.returns-then-value c).Start) c.if-value.true
-
-pub float_to_bits-b : goal.float_to_bits-b
-float_to_bits-b c = equals_itself (x (goal.at.float_to_bits-b c).Start) c.if-value.false
+pub returns-then-is_nan : goal.returns-then-is_nan
+returns-then-is_nan c = nan-refused (x (goal.at.returns-then-is_nan c).Start) (sym c.is_nan.ensures.value ∙ c.if-is_nan.true)
 
 pub overflow_cast-b : goal.overflow_cast-b
 overflow_cast-b c = omega (arith, b_lt (x (goal.at.overflow_cast-b c).Start) (held (goal.at.overflow_cast-b c).Start))
