@@ -3,19 +3,19 @@
 use mathlib.Core.Path.{◌≡◌, refl, sym, ap, ap₂, ◌∙◌, subst}
 use mathlib.Core.Logic.{◌⊎◌, inl, inr}
 use mathlib.Core.Bool.{Bool, true, false, cond}
-use Prim.Native.Nat.{ℕ, suc, ◌+◌, ◌-◌, ◌*◌, ◌/◌, ◌^◌, ◌≤◌, ◌<◌}
-use native.Mathlib.Nat.{le_trans, le_of_eq, lt_of_lt_of_le, lt_of_le_of_lt, lt_of_not-le, not-le_of_lt, le_antisymm, mul_assoc, mul_comm, mul_left_comm, mul-one, mul-pos, mul-le-mul_right, mul-le-mul_left, mul-lt-mul_of_pos_right, mul-div_cancel, div-lt_iff_lt-mul, le-div_iff_mul-le, eq-or-lt_of_le}
+use Prim.Native.Nat.{ℕ, suc, ◌+◌, ◌-◌, ◌*◌, ◌/◌, ◌^◌, ◌≤◌, ◌<◌, min}
+use native.Mathlib.Nat.{min-eq_left, min-eq_right, le_of_lt, le_trans, le_of_eq, lt_of_lt_of_le, lt_of_le_of_lt, mul_assoc, mul_comm, mul_left_comm, mul-one, mul-pos, mul-le-mul_right, mul-le-mul_left, mul-lt-mul_of_pos_right, div-lt_iff_lt-mul, le-div_iff_mul-le, eq-or-lt_of_le}
 use native.Mathlib.Omega.{arith}
 use lib.Dec.{T, ltb, eqb, leb→le, ltb→lt}
-use lib.Pow.{pow-add, pow_pos, pow_mono, shl_lt, shl-shr}
-use lib.Ieee.{Float, nan, inf, fin, binary32, binary64, up, down, size, odd, units, round, fits, of_bits, of_fields, to_bits}
-use lib.Ieee.Digits.{size-lt, size-le}
-use lib.Ieee.Fits.{down_pos, odd-fits, inf-fits, cond-fits, round_is}
-use lib.Ieee.Exact.{HasValue, units_val}
-use lib.Ieee.Bits.{of_bits-to_bits}
+use lib.Pow.{pow-add, pow_pos, pow_mono, shl_lt}
+use lib.Ieee.{Float, nan, inf, fin, binary32, binary64, up, down, size, odd, units, round, of_bits, of_fields}
+use lib.Ieee.Digits.{size-le}
+use lib.Ieee.Fits.{down_pos, round_is}
+use lib.Ieee.Exact.{HasValue}
 use lib.Ieee.Nearest.{closest, closest_same}
 use lib.Ieee.Scale.{round_same}
 use borrow.Author.Tests.{le-ltb, ne_eqb}
+use Rattle.std.proofs.lemmas.Bool.{cases_lt}
 use Rattle.floats.specs.Narrow.{narrow}
 use Rattle.floats.specs.Fields.{significand}
 use Rattle.floats.specs.FieldsLaws.{field_value}
@@ -249,7 +249,7 @@ module _ (field t : ℕ) (lo : 897 ≤ field) (h : field < 2047) (g : t < 2 ^ 52
       whole : (f : ℕ) → 897 ≤ f → 896 + (f - 897) ≡ f - 1
       whole f h = omega arith
 
-  pub large : j * 2 ^ 23 + r < 0x7f80_0000 → Narrows field t (j * 2 ^ 23 + r)
+  large : j * 2 ^ 23 + r < 0x7f80_0000 → Narrows field t (j * 2 ^ 23 + r)
   large l s =
       ap (of_bits binary32) (with_k (cond s (2 ^ 31) 0) j r)
       ∙ units-bits s r j (top-le t g) (inr ge) (fine r j l (top-le t g) (inr ge))
@@ -258,5 +258,12 @@ module _ (field t : ℕ) (lo : 897 ≤ field) (h : field < 2047) (g : t < 2 ^ 52
       with_k : (c j q : ℕ) → c + (j * 8388608 + q) ≡ c + j * 8388608 + q
       with_k c j q = omega arith
 
-  pub over : 0x7f80_0000 ≤ j * 2 ^ 23 + r → Narrows field t 0x7f80_0000
+  over : 0x7f80_0000 ≤ j * 2 ^ 23 + r → Narrows field t 0x7f80_0000
   over l s = inf_bits s ∙ sym (units-inf s r j (big r j l (top-le t g) ge)) ∙ is s
+
+  pub capped : Narrows field t (min (j * 2 ^ 23 + r) 0x7f80_0000)
+  capped = go (cases_lt (j * 2 ^ 23 + r) 0x7f80_0000)
+    where
+      go : (j * 2 ^ 23 + r < 0x7f80_0000) ⊎ (0x7f80_0000 ≤ j * 2 ^ 23 + r) → Narrows field t (min (j * 2 ^ 23 + r) 0x7f80_0000)
+      go (inl l) = subst (Narrows field t) (sym (min-eq_left (le_of_lt l))) (large l)
+      go (inr l) = subst (Narrows field t) (sym (min-eq_right l)) (over l)

@@ -8,5 +8,5 @@ ghost use Rattle.floats.specs.Abs.{abs};
 pub fn abs_below(x: f32, bound: f32) -> bool
     ensures { result ≡ lt (abs x) bound }
 {
-    if x < 0.0 { -x < bound } else { x < bound }
+    x.abs() < bound
 }

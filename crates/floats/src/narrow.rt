@@ -22,14 +22,14 @@ fn magnitude(field: u64, digits: u64) -> u64
         return nearest_shifted(4503599627370496 + digits, 926 - field);
     }
     let m = (field - 897) * 8388608 + nearest_shifted(4503599627370496 + digits, 29);
-    if m < 0x7f80_0000 { m } else { 0x7f80_0000 }
+    m.min(0x7f80_0000)
 }
 
 // x rounded once to an f32: to the nearest, a tie to the even digit, beyond the range an infinity.
 pub fn f64_to_f32(x: f64) -> f32
     ensures { result ≡ narrow x }
 {
-    if x != x {
+    if x.is_nan() {
         return 0.0 / 0.0;
     }
     let b = f64::to_bits(x);

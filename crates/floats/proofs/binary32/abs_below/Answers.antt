@@ -1,12 +1,6 @@
--- A law of `AbsLaws` for each branch. Assumes nothing.
-use lib.Ieee.{of_bits}
-use Rattle.floats.specs.AbsLaws.{below-zero, not-below_zero}
+-- The library's magnitude is `abs`.
+use Rattle.floats.specs.Abs.{abs_is}
 use Rattle.floats.proofs.binary32.abs_below.Goals as goal
 
-pub returns-then-x : goal.returns-then-x
-unfolding of_bits
-returns-then-x c = below-zero c.args.x c.args.bound c.if-x.true
-
-pub returns-else-x : goal.returns-else-x
-unfolding of_bits
-returns-else-x c = not-below_zero c.args.x c.args.bound c.if-x.false
+pub returns : goal.returns
+returns c = rw (c.abs.ensures.value, abs_is)

@@ -1,9 +1,9 @@
--- One law of `Narrowing` for each answer: `tiny`, `small`, `large` and `over`.
+-- One law of `Narrowing` for each answer: `tiny`, `small` and `capped`.
 -- Assumes nothing.
-use mathlib.Core.Path.{sym, ap, subst}
-use Prim.Native.Nat.{ℕ, ◌+◌, ◌-◌, ◌*◌, ◌^◌, ◌<◌, ◌≤◌}
+use mathlib.Core.Path.{sym, ap, subst, ◌∙◌}
+use Prim.Native.Nat.{ℕ, ◌+◌, ◌-◌, ◌*◌, ◌^◌, min}
 use native.Mathlib.Omega.{arith}
-use Rattle.floats.proofs.Narrowing.{Narrows, tiny, low-le, small, large, over}
+use Rattle.floats.proofs.Narrowing.{Narrows, tiny, low-le, small, capped}
 use borrow.Author.Rules.{rules}
 use Rattle.floats.proofs.narrow.magnitude.Goals as goal
 
@@ -19,17 +19,9 @@ returns-then-field-lt897 c =
           (small c.args.field c.args.digits c.if-field-lt872.false c.if-field-lt897.true c.requires.1),
     )
 
-pub returns-then-m-lt2139095040 : goal.returns-then-m-lt2139095040
-returns-then-m-lt2139095040 c =
-    let e = ap (λ (x : ℕ). (c.args.field - 897) * 2 ^ 23 + x) c.nearest_shifted-2.ensures in (
-      search rules,
-      subst (Narrows c.args.field c.args.digits) (sym e)
-          (large c.args.field c.args.digits c.if-field-lt897.false c.requires.0 c.requires.1 (subst (λ (x : ℕ). x < 0x7f80_0000) e c.if-m-lt2139095040.true)),
-    )
-
-pub returns-else-m-lt2139095040 : goal.returns-else-m-lt2139095040
-returns-else-m-lt2139095040 c =
-    let e = ap (λ (x : ℕ). (c.args.field - 897) * 2 ^ 23 + x) c.nearest_shifted-2.ensures in (
-      search rules,
-      over c.args.field c.args.digits c.if-field-lt897.false c.requires.0 c.requires.1 (subst (λ (x : ℕ). 0x7f80_0000 ≤ x) e c.if-m-lt2139095040.false),
+pub returns : goal.returns
+returns c =
+    let e = c.min.ensures ∙ ap (λ (x : ℕ). min ((c.args.field - 897) * 2 ^ 23 + x) 0x7f80_0000) c.nearest_shifted-2.ensures in (
+      omega arith,
+      subst (Narrows c.args.field c.args.digits) (sym e) (capped c.args.field c.args.digits c.if-field-lt897.false c.requires.0 c.requires.1),
     )
