@@ -1,6 +1,8 @@
--- The bytes of the swapped number, the least significant first, are those of the number: the law `le32_swapped`. Assumes nothing.
-use Rattle.words.specs.WordsLaws.{le32_swapped}
+-- The library's bytes are those of the definition. Assumes nothing.
+use Rattle.std.proofs.Common.{refl}
+use Rattle.words.specs.Words.{be32}
 use Rattle.words.proofs.put_u32_be.Goals as goal
 
 pub returns : goal.returns
-returns c = rw (c.swapped.ensures, le32_swapped) at c.put_u32_le.ensures
+unfolding be32
+returns c = rw c.to_be_bytes.ensures at c.put_bytes.ensures

@@ -1,15 +1,11 @@
--- Each byte that is there is read: a part from a place on is what `drop` leaves.
--- Assumes nothing.
-use mathlib.Core.Path.{sym, ◌∙◌}
+-- Each byte of the word is that of its place. Assumes nothing.
+use Rattle.std.proofs.Common.{ℕ, ◌≡◌, ◌<◌, refl, lit<, get_or, get_or-drop, drop, sym, ◌∙◌}
 use Rattle.words.specs.Words.{word16}
-use Rattle.words.specs.WordsLaws.{word16_past, from_on}
 use Rattle.words.proofs.read_u16_be.Goals as goal
-
-pub returns-then-slice-pos : goal.returns-then-slice-pos
-returns-then-slice-pos c = let a = c.args in sym (word16_past a.slice.now a.pos c.if-slice-pos.true)
 
 pub returns : goal.returns
 unfolding word16
 returns c =
-    let a = c.args in
-    c.join_bytes.ensures ∙ rw (c.byte_at.ensures, c.byte_at-2.ensures, from_on a.slice.now a.pos)
+    let rest = drop c.args.pos c.args.slice.now in
+    let at : (i : ℕ) → i < 2 → get_or c.bytes_at.result i 0 ≡ get_or rest i 0 = λ i h. c.bytes_at.ensures i h ∙ sym (get_or-drop c.args.pos c.args.slice.now i 0) in
+    c.from_be_bytes.ensures ∙ rw (at 0 (lit< tt), at 1 (lit< tt))

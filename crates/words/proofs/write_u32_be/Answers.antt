@@ -1,0 +1,8 @@
+-- The library's bytes are those of the definition. Assumes nothing.
+use Rattle.std.proofs.Common.{refl}
+use Rattle.words.specs.Words.{be32}
+use Rattle.words.proofs.write_u32_be.Goals as goal
+
+pub returns-clause-slice_after : goal.returns-clause-slice_after
+unfolding be32
+returns-clause-slice_after c = rw c.to_be_bytes.ensures at c.write.ensures.slice_after
