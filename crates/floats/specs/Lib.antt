@@ -1,6 +1,7 @@
 pub mod Binary64
 pub mod Binary32
 pub mod Abs
+pub mod AbsLaws
 pub mod Rounding
 pub mod RoundingLaws
 pub mod Fields

@@ -1,5 +1,5 @@
 -- The library's magnitude is `abs`.
-use Rattle.floats.specs.Abs.{abs_is}
+use Rattle.floats.specs.AbsLaws.{abs_is}
 use Rattle.floats.proofs.binary64.abs_below.Goals as goal
 
 pub returns : goal.returns
