@@ -1,6 +1,6 @@
 -- The bytes that a plan lays out to (01, "Words of demand 3"): the header of its kind, the tag table, the elements with their padding,
 -- and the id of all this, or zeros where the plan has the mark (02, order 7). Assumes nothing.
-use Rattle.std.specs.Prelude.{ℕ, cond, List, [], ◌∷◌, ◌++◌, map, take, drop, ℤ, pos}
+use Rattle.std.specs.Prelude.{ℕ, cond, List, [], ◌∷◌, ◌++◌, map, take, drop, Option, Some, None, ℤ, pos}
 use Rattle.words.specs.Words.{be16, be32}
 use Rattle.buffer.specs.Bytes.{zeros}
 use Rattle.buffer.specs.Ascii.{ascii}
@@ -18,8 +18,6 @@ use Rattle.profile.specs.declared.Kind.TheVariants.{Gray, Rgb, Xyb}
 use Rattle.profile.specs.TagTypes.{join, mluc, xyz, sf32, curve, cicp, s15_fixed_16s}
 use Rattle.profile.specs.Xyb.{a2b0, b2a0}
 use Rattle.profile.specs.declared.Curve.{Curve}
-use Rattle.profile.specs.declared.Cicp.{Cicp}
-use Rattle.profile.specs.declared.Cicp.TheVariants.{Absent, Primaries}
 
 -- ---- the elements of each kind, in tag order
 
@@ -50,9 +48,9 @@ abbrev pub chad_element : GrayWhite → List Element
 chad_element (unadapted x z) = []
 chad_element (adapted m) = tag Sig.chad (sf32 m) ∷ []
 
-abbrev pub cicp_element : Curve → Cicp → List Element
-cicp_element c Absent = []
-cicp_element c (Primaries v) = tag Sig.cicp (cicp v c) ∷ []
+abbrev pub cicp_element : Curve → Option ℕ → List Element
+cicp_element c None = []
+cicp_element c (Some v) = tag Sig.cicp (cicp v c) ∷ []
 
 -- the columns and the one curve of an RGB plan
 abbrev pub color_elements : List ℤ → Curve → List Element

@@ -1,7 +1,7 @@
 -- A plan (the plan of 01): a kind, an intent, maker and model (02, order 6), the mark "id not computed" (02, order 7) and what a profile of that kind
 -- holds, in whole numbers; and which plans there are, their mark aside (`Exists` of `reader_spec`).
 -- Assumes nothing.
-use Rattle.std.specs.Prelude.{ℕ, ◌^◌, ◌≤◌, ◌<◌, ◌≡◌, ◌⊎◌, Bool, false, List, length, ℤ, nat_abs}
+use Rattle.std.specs.Prelude.{ℕ, ◌^◌, ◌≤◌, ◌<◌, ◌≡◌, ◌⊎◌, Bool, false, List, length, Option, Some, None, ℤ, nat_abs}
 use Rattle.std.proofs.Common.{SFits}
 use Rattle.std.specs.Int.{w32}
 use Rattle.numbers.specs.Fixed.{largest}
@@ -11,15 +11,9 @@ use Rattle.profile.specs.declared.Kind.{Kind}
 use Rattle.profile.specs.declared.Kind.TheVariants.{Gray, Rgb, Xyb}
 use Rattle.profile.specs.declared.Curve.{Curve}
 use Rattle.profile.specs.declared.Curve.TheVariants.{Named, Gamma}
-use Rattle.profile.specs.declared.Cicp.{Cicp}
-use Rattle.profile.specs.declared.Cicp.TheVariants.{Absent, Primaries}
-
--- the white of a gray plan (02, order 9)
-pub data GrayWhite : Type 0 where
-  -- its own, X and Z; Y is 65536
-  unadapted : ℤ → ℤ → GrayWhite
-  -- adapted to D50: the nine numbers of `chad`, by rows
-  adapted : List ℤ → GrayWhite
+-- the white of a gray plan (02, order 9): its own, X and Z, as Y is 65536; or adapted to D50, the nine numbers of `chad`, by rows
+pub use Rattle.profile.specs.declared.GrayWhite.{GrayWhite}
+pub use Rattle.profile.specs.declared.GrayWhite.TheVariants.{Unadapted as unadapted, Adapted as adapted}
 
 pub record GrayContent : Type 0 where
   pub text : List ℕ
@@ -34,7 +28,7 @@ pub record RgbContent : Type 0 where
   -- nine numbers in file order: the red, the green and the blue column
   pub columns : List ℤ
   -- the `cicp` primaries value
-  pub cicp : Cicp
+  pub cicp : Option ℕ
 
 pub data Content : Type 0 where
   gray : GrayContent → Content
@@ -92,10 +86,10 @@ abbrev pub CicpPrimaries : ℕ → Type 0
 CicpPrimaries v = (v ≡ 1) ⊎ ((v ≡ 9) ⊎ ((v ≡ 11) ⊎ (v ≡ 12)))
 
 -- `cicp` stands beside a named curve only
-abbrev pub GoodCicp : Curve → Cicp → Type 0
-GoodCicp c Absent = Unit {0}
-GoodCicp (Named n) (Primaries v) = CicpPrimaries v
-GoodCicp (Gamma g) (Primaries v) = ⊥
+abbrev pub GoodCicp : Curve → Option ℕ → Type 0
+GoodCicp c None = Unit {0}
+GoodCicp (Named n) (Some v) = CicpPrimaries v
+GoodCicp (Gamma g) (Some v) = ⊥
 
 abbrev pub GoodWhite : (ℤ → Type 0) → GrayWhite → Type 0
 GoodWhite N (unadapted x z) = N x × N z

@@ -1,5 +1,5 @@
 -- Laws of plans: the tag table depends on the shape alone, what shapes there are, and a plan in code. Assumes nothing.
-use Rattle.std.specs.Prelude.{ℕ, ◌+◌, ◌*◌, ◌≤◌, ◌≡◌, Bool, List, [], ◌∷◌, ◌++◌, map, length, take, drop, ℤ}
+use Rattle.std.specs.Prelude.{ℕ, ◌+◌, ◌*◌, ◌≤◌, ◌≡◌, Bool, List, [], ◌∷◌, ◌++◌, map, length, take, drop, Option, Some, None, ℤ}
 use Rattle.std.proofs.Math.Path.{refl}
 use Rattle.std.proofs.Common.{ap, sym, ◌∙◌, length-drop, length-take-le}
 use Rattle.std.proofs.Math.Bool.{true, false}
@@ -12,7 +12,7 @@ use Rattle.profile.specs.Elements.{Element, slot, padding, start, body_size, tag
 use Rattle.profile.specs.ElementsLaws.{Four, Fours}
 use Rattle.profile.specs.Plan
 use Rattle.profile.specs.Plan.{unadapted, adapted, gray, rgb, xyb, plain_plan, with_device, with_mark, max_letters}
-use Rattle.profile.specs.Numbers.{white_by, content_by, plan_of, numbers_with, white_x_of, white_z_of, white_chad, numbers_for, numbers_of, text_for, text_of}
+use Rattle.profile.specs.Numbers.{content_by, plan_of, numbers_with, kind_of, content_of, numbers_of, text_for, text_of}
 use Rattle.profile.specs.TagTypes
 use Rattle.profile.specs.TagTypesLaws.{length-mluc, length-xyz, length-sf32, length-curve, length-cicp, length-a2b0, length-b2a0}
 use Rattle.profile.specs.Layout as Layout
@@ -21,10 +21,10 @@ use Rattle.profile.specs.declared.Kind.{Kind}
 use Rattle.profile.specs.declared.Kind.TheVariants.{Gray, Rgb, Xyb}
 use Rattle.profile.specs.declared.Shape.{Shape}
 use Rattle.profile.specs.declared.Numbers.{Numbers}
+use Rattle.profile.specs.declared.Content.{Content}
+use Rattle.profile.specs.declared.Content.TheVariants as Code
 use Rattle.profile.specs.declared.Curve.{Curve}
 use Rattle.profile.specs.declared.Curve.TheVariants.{Named, Gamma}
-use Rattle.profile.specs.declared.Cicp.{Cicp}
-use Rattle.profile.specs.declared.Cicp.TheVariants.{Absent, Primaries}
 
 -- ---- the table of a plan is that of its shape
 
@@ -47,9 +47,9 @@ good_nines N (gray g) h = white_nines N g.white h.white
 good_nines N (rgb g) h = (h.chad_nine, h.columns_nine)
 good_nines N xyb h = tt
 
-slots_cicp : (c : Curve) (v : Cicp) (es : List Element) → map slot (Layout.cicp_element c v ++ es) ≡ Shape.cicp_slot (Shape.has_cicp v) ++ map slot es
-slots_cicp c Absent es = refl
-slots_cicp c (Primaries v) es = ap (λ n. Shape.one Sig.cicp n ∷ map slot es) (length-cicp v c)
+slots_cicp : (c : Curve) (v : Option ℕ) (es : List Element) → map slot (Layout.cicp_element c v ++ es) ≡ Shape.cicp_slot (Shape.has_cicp v) ++ map slot es
+slots_cicp c None es = refl
+slots_cicp c (Some v) es = ap (λ n. Shape.one Sig.cicp n ∷ map slot es) (length-cicp v c)
 
 -- three numbers in `wtpt`, and `chad` where there is one
 length-white : (w : Plan.GrayWhite) → length (Layout.white_numbers w) ≡ 3
@@ -84,66 +84,55 @@ slots_shape p h = go p.intent p.content h
 pub unmarked : (p : Plan.Plan) → p.id_not_computed ≡ false → with_mark false p ≡ p
 unmarked p e = λ j. with_mark (sym e j) p
 
+content_back : (c : Plan.Content) → content_by (content_of c) (text_for c) ≡ c
+content_back (gray g) = refl
+content_back (rgb g) = refl
+content_back xyb = refl
+
 -- a plan, its mark aside, is what its numbers and its text make
 pub plan_of_numbers : (p : Plan.Plan) → plan_of (numbers_of p) (text_of p) ≡ with_mark false p
-plan_of_numbers p = go p.intent p.content
-  where
-    go : (i : ℕ) (c : Plan.Content) → plan_of (numbers_with p.maker p.model (numbers_for i c)) (text_for c) ≡ with_device p.maker p.model (plain_plan i c)
-    go i (gray g) = ap (λ w. with_device p.maker p.model (plain_plan i (gray (record { text = g.text; curve = g.curve; white = w })))) (by_white g.white)
-      where
-        by_white : (w : Plan.GrayWhite) → white_by (Shape.is_adapted w) (white_x_of w) (white_z_of w) (white_chad w) ≡ w
-        by_white (unadapted x z) = refl
-        by_white (adapted m) = refl
-    go i (rgb g) = refl
-    go i xyb = refl
-
-pub adapted_by : (a : Bool) (x z : ℤ) (m : List ℤ) → Shape.is_adapted (white_by a x z m) ≡ a
-adapted_by true x z m = refl
-adapted_by false x z m = refl
+plan_of_numbers p = ap (λ c. with_device p.maker p.model (plain_plan p.intent c)) (content_back p.content)
 
 -- maker and model in the numbers are those of the plan
 pub plan_with : (a b : ℕ) (p : Numbers) (t : List ℕ) → plan_of (numbers_with a b p) t ≡ with_device a b (plan_of p t)
-plan_with a b p t = ap (λ c. with_device a b (plain_plan p.intent c)) (go p.kind)
-  where
-    go : (k : Kind) → content_by k (numbers_with a b p) t ≡ content_by k p t
-    go Gray = refl
-    go Rgb = refl
-    go Xyb = refl
+plan_with a b p t = refl
 
-pub kind_by_lem : (p : Numbers) (t : List ℕ) → Plan.kind (plan_of p t) ≡ p.kind
-kind_by_lem p t = go p.kind
+pub kind_by_lem : (p : Numbers) (t : List ℕ) → Plan.kind (plan_of p t) ≡ kind_of p.content
+kind_by_lem p t = go p.content
   where
-    go : (k : Kind) → Plan.kind_of (content_by k p t) ≡ k
-    go Gray = refl
-    go Rgb = refl
-    go Xyb = refl
+    go : (c : Content) → Plan.kind_of (content_by c t) ≡ kind_of c
+    go (Code.Gray c w) = refl
+    go (Code.Rgb c v m k) = refl
+    go Code.Xyb = refl
 
 pub letters_by : (p : Numbers) (t : List ℕ) → length t ≤ max_letters → (Shape.shape (plan_of p t)).letters ≤ max_letters
-letters_by p t h = go p.kind
+letters_by p t h = go p.content
   where
-    go : (k : Kind) → (Shape.shape_of (content_by k p t)).letters ≤ max_letters
-    go Gray = h
-    go Rgb = h
-    go Xyb = omega arith
+    go : (c : Content) → (Shape.shape_of (content_by c t)).letters ≤ max_letters
+    go (Code.Gray c w) = h
+    go (Code.Rgb c v m k) = h
+    go Code.Xyb = omega arith
 
-pub white_nines_by : (a : Bool) (x z : ℤ) (m : List ℤ) → length m ≡ 9 → WhiteNines (white_by a x z m)
-white_nines_by true x z m h = h
-white_nines_by false x z m h = tt
+-- nine numbers each, in what the numbers have
+abbrev pub NinesIn : Content → Type 0
+NinesIn (Code.Gray c w) = WhiteNines w
+NinesIn (Code.Rgb c v m k) = (length m ≡ 9) × (length k ≡ 9)
+NinesIn Code.Xyb = Unit {0}
 
-pub nines_by : (p : Numbers) (t : List ℕ) → length p.chad ≡ 9 → length p.columns ≡ 9 → Nines (plan_of p t).content
-nines_by p t h g = go p.kind
+pub nines_by : (p : Numbers) (t : List ℕ) → NinesIn p.content → Nines (plan_of p t).content
+nines_by p t h = go p.content h
   where
-    go : (k : Kind) → Nines (content_by k p t)
-    go Gray = white_nines_by p.adapted p.white_x p.white_z p.chad h
-    go Rgb = (h, g)
-    go Xyb = tt
+    go : (c : Content) → NinesIn c → Nines (content_by c t)
+    go (Code.Gray c w) h = h
+    go (Code.Rgb c v m k) h = h
+    go Code.Xyb h = tt
 
 -- ---- the shapes there are
 
-good_pair : (c : Curve) (v : Cicp) → Plan.GoodCicp c v → Shape.NotBoth (Shape.has_cicp v) (Shape.is_gamma c)
-good_pair c Absent h = tt
-good_pair (Named n) (Primaries v) h = tt
-good_pair (Gamma g) (Primaries v) h = h
+good_pair : (c : Curve) (v : Option ℕ) → Plan.GoodCicp c v → Shape.NotBoth (Shape.has_cicp v) (Shape.is_gamma c)
+good_pair c None h = tt
+good_pair (Named n) (Some v) h = tt
+good_pair (Gamma g) (Some v) h = h
 
 pub good_shape : (N : ℤ → Type 0) (c : Plan.Content) → Plan.GoodContent N c → Shape.GoodShape (Shape.shape_of c)
 good_shape N (gray g) h = record { some-letter = h.text.some-letter; short = h.text.short; pair = tt }

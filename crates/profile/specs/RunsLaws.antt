@@ -1,6 +1,6 @@
 -- Runs of bytes put one after another are one run. Assumes nothing.
-use Rattle.std.specs.Prelude.{ℕ, ◌+◌, ◌≤◌, ◌≡◌, refl, List, [], ◌∷◌, length}
-use Rattle.std.proofs.Common.{sym, arith}
+use Rattle.std.specs.Prelude.{ℕ, ◌≤◌, ◌≡◌, List, [], ◌∷◌, length}
+use Rattle.std.proofs.Common.{arith}
 use Rattle.buffer.specs.BufferLaws.{put_end}
 use Rattle.buffer.specs.Puts.{Puts, PutsText}
 use Rattle.buffer.specs.PutsLaws.{none, wrote, joined}

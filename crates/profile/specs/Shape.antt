@@ -1,6 +1,6 @@
 -- The shape of a plan: its kind, the letters of its text, whether its curve is a gamma, whether it has `cicp` and whether it is gray with its white adapted
 -- to D50. The tag table of a plan is that of its shape (PlanLaws). Assumes nothing.
-use Rattle.std.specs.Prelude.{ℕ, ◌+◌, ◌*◌, ◌≤◌, Bool, true, false, List, [], ◌∷◌, ◌++◌, length}
+use Rattle.std.specs.Prelude.{ℕ, ◌+◌, ◌*◌, ◌≤◌, Bool, true, false, List, [], ◌∷◌, ◌++◌, length, Option, Some, None}
 use Rattle.profile.specs.Signatures as Sig
 use Rattle.profile.specs.Elements.{Slot}
 use Rattle.profile.specs.Plan.{Plan, GrayWhite, unadapted, adapted, Content, gray, rgb, xyb, max_letters}
@@ -9,16 +9,14 @@ use Rattle.profile.specs.declared.Kind.TheVariants.{Gray, Rgb, Xyb}
 use Rattle.profile.specs.declared.Shape.{Shape}
 use Rattle.profile.specs.declared.Curve.{Curve}
 use Rattle.profile.specs.declared.Curve.TheVariants.{Named, Gamma}
-use Rattle.profile.specs.declared.Cicp.{Cicp}
-use Rattle.profile.specs.declared.Cicp.TheVariants.{Absent, Primaries}
 
 abbrev pub is_gamma : Curve → Bool
 is_gamma (Named n) = false
 is_gamma (Gamma g) = true
 
-abbrev pub has_cicp : Cicp → Bool
-has_cicp Absent = false
-has_cicp (Primaries v) = true
+abbrev pub has_cicp : Option ℕ → Bool
+has_cicp None = false
+has_cicp (Some v) = true
 
 abbrev pub is_adapted : GrayWhite → Bool
 is_adapted (unadapted x z) = false

@@ -1,5 +1,5 @@
 -- The bytes of each tag type of ICC.1:2022 (section 10) that the profiles hold. Assumes nothing.
-use Rattle.std.specs.Prelude.{ℕ, ◌+◌, ◌*◌, List, [], ◌∷◌, ◌++◌, length, ℤ, pos}
+use Rattle.std.specs.Prelude.{ℕ, ◌*◌, List, [], ◌∷◌, ◌++◌, length, ℤ, pos}
 use Rattle.words.specs.Words.{be16, be32, twos_complement32}
 use Rattle.buffer.specs.Ascii.{ascii}
 use Rattle.buffer.specs.Bytes.{zeros}

@@ -1,12 +1,12 @@
 -- Laws of the tag types: how long each is, without and with its padding. Assumes nothing.
-use Rattle.std.specs.Prelude.{ℕ, ◌+◌, ◌*◌, ◌%◌, ◌≡◌, refl, List, [], ◌∷◌, length, take, drop, ℤ, pos}
+use Rattle.std.specs.Prelude.{ℕ, ◌+◌, ◌*◌, ◌≡◌, refl, List, [], ◌∷◌, length, take, drop, ℤ, pos}
 use Rattle.std.proofs.Common.{ap, ◌∙◌, arith, length-append, length-drop, length-take-le}
 use Rattle.words.specs.Words.{be16, be32, twos_complement32}
 use Rattle.words.specs.WordsLaws.{length-be16, length-be32}
 use Rattle.xyb_constants.specs.XybNumbers.{m_curves}
 use Rattle.xyb_constants.proofs.XybNumbersLaws as XybNumbers
 use Rattle.profile.specs.Elements.{padded, padded_size}
-use Rattle.profile.specs.ElementsLaws.{length-padded, padded_whole}
+use Rattle.profile.specs.ElementsLaws.{length-padded}
 use Rattle.profile.specs.TagTypes
 use Rattle.profile.specs.Xyb
 use Rattle.profile.specs.Shape

@@ -29,7 +29,7 @@ pub const SRGB_GAMMA: i32 = 157286;
 pub const DCI_GAMMA: i32 = 170394;
 
 // The three kinds of profile.
-#[derive(Clone, Copy)]
+#[derive(Clone, Copy, Debug, PartialEq, Eq)]
 pub enum Kind {
     Gray,
     Rgb,
@@ -38,7 +38,7 @@ pub enum Kind {
 
 // The shape of a plan, which its tag table and its length show: the letters of its text, whether its curve is a gamma, whether it has
 // `cicp` and whether it is gray with its white adapted to D50.
-#[derive(Clone, Copy)]
+#[derive(Clone, Copy, Debug, PartialEq, Eq)]
 pub struct Shape {
     pub kind: Kind,
     pub letters: usize,
@@ -48,7 +48,7 @@ pub struct Shape {
 }
 
 // A named curve: its five numbers are those of function type 3.
-#[derive(Clone, Copy)]
+#[derive(Clone, Copy, Debug, PartialEq, Eq)]
 pub enum CurveName {
     BT709,
     Linear,
@@ -57,113 +57,80 @@ pub enum CurveName {
 }
 
 // A curve of a profile: a named one, or function type 0 with the fixed number of 1/g.
-#[derive(Clone, Copy)]
+#[derive(Clone, Copy, Debug, PartialEq, Eq)]
 pub enum Curve {
     Named(CurveName),
     Gamma(i32),
 }
 
-// The `cicp` tag: absent, or with this value of ColourPrimaries.
-#[derive(Clone, Copy)]
-pub enum Cicp {
-    Absent,
-    Primaries(u8),
+// The white of a gray plan: its own, X and Z, as Y is 65536; or adapted to D50, the nine numbers of `chad`, by rows.
+#[derive(Clone, Copy, Debug, PartialEq, Eq)]
+pub enum GrayWhite {
+    Unadapted { x: i32, z: i32 },
+    Adapted([i32; 9]),
 }
 
-// A plan but for its text, which is lent beside it. Where a kind has no such number the field is zero, or the first curve. Maker and model are four
-// bytes each, the first the most significant. Gray has X and Z of its white or, where this is adapted to D50, `chad`.
-#[derive(Clone, Copy)]
+// What a plan of each kind has but its text. The nine numbers of `chad` go by rows, those of the columns are the red, the green and the blue one,
+// and `cicp` is its value of ColourPrimaries, if there is that tag.
+#[derive(Clone, Copy, Debug, PartialEq, Eq)]
+pub enum Content {
+    Gray {
+        curve: Curve,
+        white: GrayWhite,
+    },
+    Rgb {
+        curve: Curve,
+        cicp: Option<u8>,
+        chad: [i32; 9],
+        columns: [i32; 9],
+    },
+    Xyb,
+}
+
+impl Content {
+    pub fn kind(self) -> Kind
+        ensures { result ≡ Plans.kind_of self }
+    {
+        match self {
+            Content::Gray { .. } => Kind::Gray,
+            Content::Rgb { .. } => Kind::Rgb,
+            Content::Xyb => Kind::Xyb,
+        }
+    }
+}
+
+// A plan but for its text, which is lent beside it. Maker and model are four bytes each, the first the most significant.
+#[derive(Clone, Copy, Debug, PartialEq, Eq)]
 pub struct Numbers {
-    pub kind: Kind,
     pub intent: u32,
     pub maker: u32,
     pub model: u32,
-    pub curve: Curve,
-    pub cicp: Cicp,
-    pub adapted: bool,
-    pub white_x: i32,
-    pub white_z: i32,
-    pub chad: [i32; 9],
-    pub columns: [i32; 9],
+    pub content: Content,
 }
 
-// ---- the numbers of each kind, at first without maker and model
-
-pub fn gray_numbers(
-    intent: u32,
-    curve: Curve,
-    adapted: bool,
-    white_x: i32,
-    white_z: i32,
-    chad: [i32; 9],
-) -> Numbers
-    ensures { result ≡ Plans.gray_numbers intent curve adapted white_x white_z chad }
-{
-    Numbers {
-        kind: Kind::Gray,
-        intent,
-        maker: 0,
-        model: 0,
-        curve,
-        cicp: Cicp::Absent,
-        adapted,
-        white_x,
-        white_z,
-        chad,
-        columns: [0; 9],
+impl Numbers {
+    // The numbers of this intent and content, with maker and model zero.
+    pub fn plain(intent: u32, content: Content) -> Numbers
+        ensures { result ≡ Plans.plain_numbers intent content }
+    {
+        Numbers {
+            intent,
+            maker: 0,
+            model: 0,
+            content,
+        }
     }
-}
 
-pub fn rgb_numbers(
-    intent: u32,
-    curve: Curve,
-    cicp: Cicp,
-    chad: [i32; 9],
-    columns: [i32; 9],
-) -> Numbers
-    ensures { result ≡ Plans.rgb_numbers intent curve cicp chad columns }
-{
-    Numbers {
-        kind: Kind::Rgb,
-        intent,
-        maker: 0,
-        model: 0,
-        curve,
-        cicp,
-        adapted: false,
-        white_x: 0,
-        white_z: 0,
-        chad,
-        columns,
+    // The numbers with this maker and this model.
+    pub fn with_device(self, maker: u32, model: u32) -> Numbers
+        ensures { result ≡ Plans.numbers_with maker model self }
+    {
+        Numbers {
+            maker,
+            model,
+            ..self
+        }
     }
-}
-
-pub fn xyb_numbers(intent: u32) -> Numbers
-    ensures { result ≡ Plans.xyb_numbers intent }
-{
-    Numbers {
-        kind: Kind::Xyb,
-        intent,
-        maker: 0,
-        model: 0,
-        curve: Curve::Named(CurveName::BT709),
-        cicp: Cicp::Absent,
-        adapted: false,
-        white_x: 0,
-        white_z: 0,
-        chad: [0; 9],
-        columns: [0; 9],
-    }
-}
-
-// The numbers with this maker and this model.
-pub fn with_device(plan: Numbers, maker: u32, model: u32) -> Numbers
-    ensures { result ≡ Plans.numbers_with maker model plan }
-{
-    let mut r = plan;
-    r.maker = maker;
-    r.model = model;
-    r
 }
 
 // The text of an XYB plan with this intent. No plan has an intent above 3.
@@ -181,44 +148,35 @@ pub fn xyb_text(intent: u32) -> [u8; XYB_LETTERS]
 fn is_gamma(curve: Curve) -> bool
     ensures { result ≡ Shapes.is_gamma curve }
 {
-    match curve {
-        Curve::Named(_) => false,
-        Curve::Gamma(_) => true,
-    }
+    matches!(curve, Curve::Gamma(_))
 }
 
-fn has_cicp(cicp: Cicp) -> bool
-    ensures { result ≡ Shapes.has_cicp cicp }
+fn is_adapted(white: GrayWhite) -> bool
+    ensures { result ≡ Shapes.is_adapted white }
 {
-    match cicp {
-        Cicp::Absent => false,
-        Cicp::Primaries(_) => true,
-    }
+    matches!(white, GrayWhite::Adapted(_))
 }
 
 // The shape of a plan with a text of so many letters.
 pub fn shape_of(plan: Numbers, letters: usize) -> Shape
     ensures { (text : List ℕ) → letters ≡ length text → result ≡ Shapes.shape (Plans.plan_of plan text) }
 {
-    let kind = plan.kind;
-    let curve = plan.curve;
-    let cicp = plan.cicp;
-    match kind {
-        Kind::Gray => Shape {
+    match plan.content {
+        Content::Gray { curve, white } => Shape {
             kind: Kind::Gray,
             letters,
             gamma: is_gamma(curve),
             cicp: false,
-            adapted: plan.adapted,
+            adapted: is_adapted(white),
         },
-        Kind::Rgb => Shape {
+        Content::Rgb { curve, cicp, .. } => Shape {
             kind: Kind::Rgb,
             letters,
             gamma: is_gamma(curve),
-            cicp: has_cicp(cicp),
+            cicp: cicp.is_some(),
             adapted: false,
         },
-        Kind::Xyb => Shape {
+        Content::Xyb => Shape {
             kind: Kind::Xyb,
             letters: XYB_LETTERS,
             gamma: false,
