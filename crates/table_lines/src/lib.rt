@@ -6,6 +6,7 @@ ghost use Rattle.std.specs.Prelude.{◌≡◌, ◌≤◌, length};
 ghost use Rattle.profile.specs.Elements.{line_start};
 ghost use Rattle.reader_spec.specs.Table as Table;
 ghost use Rattle.reader_spec.specs.Finder.{line_of};
+ghost use Rattle.table_lines.specs.Lines.{Tells, Found};
 
 use tag_table::{ENTRY_SIZE, HEADER_SIZE};
 use words::read_u32_be;
@@ -34,15 +35,15 @@ pub fn elements_start(file: &[u8]) -> usize
 }
 
 // Where an element starts, and how many bytes it has.
-#[derive(Clone, Copy)]
+#[derive(Clone, Copy, Debug, PartialEq, Eq)]
 pub struct Line {
     pub offset: u32,
     pub size: u32,
 }
 
-// What a line of the table says, and zeros where there is no such line.
+// What a line of the table says, and zeros where there is no such line: what is read from a file goes by zeros there, as past the end of the file.
 pub fn line_at(file: &[u8], line: usize) -> Line
-    ensures { (result.offset ≡ (Table.line_in file.now line).offset) × (result.size ≡ (Table.line_in file.now line).size) }
+    ensures { Tells result (Table.line_in file.now line) }
 {
     if tag_count(file) as usize <= line {
         return Line { offset: 0, size: 0 };
@@ -54,19 +55,16 @@ pub fn line_at(file: &[u8], line: usize) -> Line
     }
 }
 
-// What the first line with a signature says, and zeros where the table has none.
-pub fn line_of(file: &[u8], signature: [u8; 4]) -> Line
+// What the first line with a signature says.
+pub fn line_of(file: &[u8], signature: [u8; 4]) -> Option<Line>
     requires { line_start (Table.tags_of file.now) ≤ length file.now }
-    ensures { (result.offset ≡ (line_of signature (Table.entries_of file.now) Table.absent).offset) × (result.size ≡ (line_of signature (Table.entries_of file.now) Table.absent).size) }
+    ensures { Found result (line_of signature (Table.entries_of file.now) Table.absent) }
 {
-    let tags = tag_count(file) as usize;
-    let mut i = 0usize;
-    while i < tags {
+    for i in 0..tag_count(file) as usize {
         let at = FIRST_LINE + ENTRY_SIZE * i;
         if buffer::same_bytes(&file[at..at + LINE_OFFSET], &signature) {
-            return line_at(file, i);
+            return Some(line_at(file, i));
         }
-        i += 1;
     }
-    Line { offset: 0, size: 0 }
+    None
 }
