@@ -1,5 +1,5 @@
 -- That what the reader's checks ask can be decided. Assumes nothing.
-use Rattle.std.specs.Prelude.{ℕ, suc, ◌≤◌, ◌≡◌, ◌⊎◌, Bool, true, false, ℤ, nat_abs, length}
+use Rattle.std.specs.Prelude.{ℕ, suc, ◌≤◌, ◌≡◌, ◌⊎◌, Bool, true, false, ℤ, nat_abs, length, Option, Some, None}
 use Rattle.std.proofs.Common.{inl, inr, SFits}
 use mathlib.Core.List.{List, [], ◌∷◌, List-discrete}
 use Rattle.std.proofs.Math.Decide.{dec_le, ℕ_discrete, map_dec}
@@ -8,15 +8,15 @@ use Rattle.std.specs.Int.{w32}
 use Rattle.buffer.specs.All.{All, none, more}
 use Rattle.profile.specs.Elements.{table, body, file_length}
 use Rattle.profile.specs.Plan
-use Rattle.profile.specs.Plan.{unadapted, adapted, gray, rgb, xyb}
+use Rattle.profile.specs.Plan.{gray, rgb, xyb}
+use Rattle.profile.specs.declared.GrayWhite.{GrayWhite}
+use Rattle.profile.specs.declared.GrayWhite.TheVariants.{Unadapted, Adapted}
 use Rattle.profile.specs.declared.Kind.{Kind}
 use Rattle.profile.specs.Layout.{elements, slots}
 use Rattle.profile.specs.Shape.{slots_of, NotBoth, GoodShape}
 use Rattle.profile.specs.declared.Shape.{Shape}
 use Rattle.profile.specs.declared.Curve.{Curve}
 use Rattle.profile.specs.declared.Curve.TheVariants.{Named, Gamma}
-use Rattle.profile.specs.declared.Cicp.{Cicp}
-use Rattle.profile.specs.declared.Cicp.TheVariants.{Absent, Primaries}
 use Rattle.reader_spec.specs.Table.{table_of, body_of}
 use Rattle.reader_spec.specs.RefusalList.{Header}
 
@@ -62,14 +62,14 @@ module _ (N : ℤ → Type 0) (d : (z : ℤ) → Dec (N z)) where
   curve (Named n) = yes tt
   curve (Gamma g) = d g
 
-  cicp : (c : Curve) (v : Cicp) → Dec (Plan.GoodCicp c v)
-  cicp c Absent = yes tt
-  cicp (Named n) (Primaries v) = primaries v
-  cicp (Gamma g) (Primaries v) = no (λ h. h)
+  cicp : (c : Curve) (v : Option ℕ) → Dec (Plan.GoodCicp c v)
+  cicp c None = yes tt
+  cicp (Named n) (Some v) = primaries v
+  cicp (Gamma g) (Some v) = no (λ h. h)
 
-  white : (w : Plan.GrayWhite) → Dec (Plan.GoodWhite N w)
-  white (unadapted x z) = both (d x) (d z)
-  white (adapted m) = both (ℕ_discrete (length m) 9) (each N d m)
+  white : (w : GrayWhite) → Dec (Plan.GoodWhite N w)
+  white (Unadapted x z) = both (d x) (d z)
+  white (Adapted m) = both (ℕ_discrete (length m) 9) (each N d m)
 
   pub content : (c : Plan.Content) → Dec (Plan.GoodContent N c)
   content (gray g) =

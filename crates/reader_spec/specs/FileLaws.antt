@@ -12,7 +12,9 @@ use Rattle.buffer.specs.Bytes.{zeros, same}
 use Rattle.buffer.specs.All.{All, none, more}
 use Rattle.profile.specs.Elements.{start, tag_count, table, entries, body, file, file_length}
 use Rattle.profile.specs.ElementsLaws.{Fours}
-use Rattle.profile.specs.Plan.{Plan, GrayWhite, unadapted, adapted, Content, gray, rgb, xyb, plain_plan, with_device, with_mark, kind, FourBytes, GoodCurve, GoodWhite, GoodContent, Good, InRange, Valid, Wide}
+use Rattle.profile.specs.Plan.{Plan, Content, gray, rgb, xyb, plain_plan, with_device, with_mark, kind, FourBytes, GoodCurve, GoodWhite, GoodContent, Good, InRange, Valid, Wide}
+use Rattle.profile.specs.declared.GrayWhite.{GrayWhite}
+use Rattle.profile.specs.declared.GrayWhite.TheVariants.{Unadapted, Adapted}
 use Rattle.profile.specs.declared.Kind.{Kind}
 use Rattle.profile.specs.declared.Kind.TheVariants.{Gray, Rgb, Xyb}
 use Rattle.profile.specs.PlanLaws.{good_nines, slots_shape}
@@ -220,8 +222,8 @@ module _ (M N : ℤ → Type 0) (f : (z : ℤ) → M z → N z) where
   curve_weaken (Gamma g) h = f g h
 
   white_weaken : (w : GrayWhite) → GoodWhite M w → GoodWhite N w
-  white_weaken (unadapted x z) h = (f x h.0, f z h.1)
-  white_weaken (adapted m) h = (h.0, All-weaken f h.1)
+  white_weaken (Unadapted x z) h = (f x h.0, f z h.1)
+  white_weaken (Adapted m) h = (h.0, All-weaken f h.1)
 
   content_weaken : (c : Content) → GoodContent M c → GoodContent N c
   content_weaken (gray g) h =

@@ -1,9 +1,11 @@
 -- The plan that a file can only have, its mark aside, read from the bytes of its header, its tag table and its elements. Assumes nothing.
-use Rattle.std.specs.Prelude.{ℕ, zero, suc, ◌+◌, ◌*◌, ◌/◌, ◌-◌, Bool, true, false, cond, ◌&&◌, List, [], ◌∷◌, ◌++◌, eqb, ℤ, pos, nat_abs, length, take, drop, get_or}
+use Rattle.std.specs.Prelude.{ℕ, zero, suc, ◌+◌, ◌*◌, ◌/◌, ◌-◌, Bool, true, false, cond, ◌&&◌, List, [], ◌∷◌, ◌++◌, eqb, ℤ, pos, nat_abs, length, take, drop, get_or, Option, Some, None}
 use Rattle.words.specs.Words.{word32, signed32}
 use Rattle.buffer.specs.Bytes.{same}
 use Rattle.profile.specs.Elements.{Entry}
-use Rattle.profile.specs.Plan.{Plan, GrayWhite, unadapted, adapted, Content, gray, rgb, xyb, plain_plan, with_device}
+use Rattle.profile.specs.Plan.{Plan, Content, gray, rgb, xyb, plain_plan, with_device}
+use Rattle.profile.specs.declared.GrayWhite.{GrayWhite}
+use Rattle.profile.specs.declared.GrayWhite.TheVariants.{Unadapted, Adapted}
 use Rattle.profile.specs.declared.Kind.{Kind}
 use Rattle.profile.specs.declared.Kind.TheVariants.{Gray, Rgb, Xyb}
 use Rattle.profile.specs.TagTypes.{parameters}
@@ -14,8 +16,6 @@ use Rattle.profile.specs.declared.CurveName.{CurveName}
 use Rattle.profile.specs.declared.CurveName.TheVariants as Name
 use Rattle.profile.specs.declared.Curve.{Curve}
 use Rattle.profile.specs.declared.Curve.TheVariants.{Named, Gamma}
-use Rattle.profile.specs.declared.Cicp.{Cicp}
-use Rattle.profile.specs.declared.Cicp.TheVariants.{Absent, Primaries}
 use Rattle.reader_spec.specs.Table.{varying_of, entries_of, absent, line_in}
 
 -- ---- the kind, by class and space, bytes 12 to 15 and 16 to 19 of the header
@@ -102,9 +102,9 @@ abbrev pub curve_in : Bool → List ℕ → Curve
 curve_in true b = Gamma (number_in (drop 12 b))
 curve_in false b = Named (name_by (word32 (drop 12 b)))
 
-abbrev pub cicp_in : Bool → List ℕ → Cicp
-cicp_in true b = Primaries (get_or b 8 0)
-cicp_in false b = Absent
+abbrev pub cicp_in : Bool → List ℕ → Option ℕ
+cicp_in true b = Some (get_or b 8 0)
+cicp_in false b = None
 
 -- ---- the plan, from its shape and its elements: e i is the element that line i names
 
@@ -114,8 +114,8 @@ columns_in e i = numbers_in 3 (e i) ++ (numbers_in 3 (e (i + 1)) ++ numbers_in 3
 
 -- the white of gray: X and Z of `wtpt`, or, adapted, `chad`
 abbrev pub white_in : Bool → (ℕ → List ℕ) → GrayWhite
-white_in true e = adapted (numbers_in 9 (e 3))
-white_in false e = unadapted (number_in (drop 8 (e 2))) (number_in (drop 16 (e 2)))
+white_in true e = Adapted (numbers_in 9 (e 3))
+white_in false e = Unadapted (number_in (drop 8 (e 2))) (number_in (drop 16 (e 2)))
 
 unfoldable pub content_from : Kind → Shape → (ℕ → List ℕ) → Content
 content_from Gray s e =

@@ -1,6 +1,6 @@
 -- What is laid out is read back: each tag type, the content of a plan, and the shape of a plan's table. Assumes nothing.
 use Prim.Native.Nat.{ℕ, ◌+◌, ◌*◌, ◌/◌, ◌^◌, ◌≤◌, ◌<◌}
-use Rattle.std.specs.Prelude.{◌≡◌, Bool, ℤ, pos, length, take, drop, get_or}
+use Rattle.std.specs.Prelude.{◌≡◌, Bool, ℤ, pos, length, take, drop, get_or, Option, Some, None}
 use Rattle.std.proofs.Math.Path.{refl}
 use Rattle.std.proofs.Common.{ap, ap₂, ◌∙◌, arith, length-append, length-drop, take-append-drop, length-take-le, take_at, drop_at, drop-drop, SFits}
 use Rattle.std.proofs.Math.Bool.{true, false}
@@ -14,8 +14,10 @@ use Rattle.buffer.specs.All.{All, none, more}
 use Rattle.buffer.specs.AllLaws.{All-take, All-drop}
 use Rattle.profile.specs.Signatures as Sig
 use Rattle.profile.specs.Elements.{Entry, Element, entries, body}
-use Rattle.profile.specs.Plan.{GrayContent, GrayWhite, unadapted, adapted, RgbContent, Content, gray, rgb, xyb, kind_of, GoodCurve, GoodGray, GoodRgb, GoodContent}
+use Rattle.profile.specs.Plan.{GrayContent, RgbContent, Content, gray, rgb, xyb, kind_of, GoodCurve, GoodGray, GoodRgb, GoodContent}
 use Rattle.profile.specs.Numbers.{numbers_with, numbers_for, numbers_of, text_for, text_of}
+use Rattle.profile.specs.declared.GrayWhite.{GrayWhite}
+use Rattle.profile.specs.declared.GrayWhite.TheVariants.{Unadapted, Adapted}
 use Rattle.profile.specs.declared.Kind.{Kind}
 use Rattle.profile.specs.declared.Kind.TheVariants.{Gray, Rgb, Xyb}
 use Rattle.profile.specs.TagTypes
@@ -28,8 +30,6 @@ use Rattle.profile.specs.declared.CurveName.{CurveName}
 use Rattle.profile.specs.declared.CurveName.TheVariants as Name
 use Rattle.profile.specs.declared.Curve.{Curve}
 use Rattle.profile.specs.declared.Curve.TheVariants.{Named, Gamma}
-use Rattle.profile.specs.declared.Cicp.{Cicp}
-use Rattle.profile.specs.declared.Cicp.TheVariants.{Absent, Primaries}
 use Rattle.reader_spec.specs.Table.{varying_of}
 use Rattle.reader_spec.specs.TableLaws.{tails, body_front}
 use Rattle.reader_spec.specs.JoinLaws.{from_part}
@@ -155,17 +155,17 @@ gray_content t c w = record { text = t; curve = c; white = w }
 gray_back : (i : ℕ) (t : List ℕ) (c : Curve) (w : GrayWhite) (f : List ℕ)
     → let g = gray_content t c w in GoodGray (SFits w32) g → PlanIn.content_from Gray (shape_of (gray g)) (element_of (elements_for i (gray g)) f) ≡ gray g
 unfolding PlanIn.content_from tails
-gray_back i t c (unadapted x z) f h =
+gray_back i t c (Unadapted x z) f h =
     let text = first_of (PlanIn.text_in (length t)) _ _ (text_back t) in
     let curve = first_of (PlanIn.curve_in (is_gamma c)) _ _ (λ r. curve_back c r h.curve) in
     let x-is = first_of (λ b. PlanIn.number_in (drop 8 b)) _ _ (λ r. x_back x (pos 65536) z r h.white.0) in
     let z-is = first_of (λ b. PlanIn.number_in (drop 16 b)) _ _ (λ r. z_back x (pos 65536) z r h.white.1) in
-    λ j. gray (gray_content (text j) (curve j) (unadapted (x-is j) (z-is j)))
-gray_back i t c (adapted m) f h =
+    λ j. gray (gray_content (text j) (curve j) (Unadapted (x-is j) (z-is j)))
+gray_back i t c (Adapted m) f h =
     let text = first_of (PlanIn.text_in (length t)) _ _ (text_back t) in
     let curve = first_of (PlanIn.curve_in (is_gamma c)) _ _ (λ r. curve_back c r h.curve) in
     let chad = first_of (PlanIn.numbers_in 9) _ _ (λ r. sf32_back 9 m r h.white.0 h.white.1) in
-    λ j. gray (gray_content (text j) (curve j) (adapted (chad j)))
+    λ j. gray (gray_content (text j) (curve j) (Adapted (chad j)))
 
 thirds : (k : List ℤ) → take 3 k ++ (take 3 (drop 3 k) ++ drop 6 k) ≡ k
 thirds k = rw (← drop-drop 3 3 k, take-append-drop 3 (drop 3 k)) (take-append-drop 3 k)
@@ -188,14 +188,14 @@ unfolding PlanIn.content_from
 rgb_from_lem s e g t c m red green blue v = λ j.
     rgb (record { text = t j; curve = c j; chad = m j; columns = (ap₂ ◌++◌ red (ap₂ ◌++◌ green blue) ∙ thirds g.columns) j; cicp = v j })
 
-abbrev rgb_content : List ℕ → Curve → List ℤ → List ℤ → Cicp → RgbContent
+abbrev rgb_content : List ℕ → Curve → List ℤ → List ℤ → Option ℕ → RgbContent
 rgb_content t c m k v = record { text = t; curve = c; chad = m; columns = k; cicp = v }
 
-rgb_back : (i : ℕ) (t : List ℕ) (c : Curve) (m k : List ℤ) (v : Cicp) (f : List ℕ)
+rgb_back : (i : ℕ) (t : List ℕ) (c : Curve) (m k : List ℤ) (v : Option ℕ) (f : List ℕ)
     → let g = rgb_content t c m k v in GoodRgb (SFits w32) g → PlanIn.content_from Rgb (shape_of (rgb g)) (element_of (elements_for i (rgb g)) f) ≡ rgb g
 unfolding tails
-rgb_back i t c m k Absent f h =
-    rgb_from_lem (shape_of (rgb (rgb_content t c m k Absent))) (element_of (elements_for i (rgb (rgb_content t c m k Absent))) f) (rgb_content t c m k Absent)
+rgb_back i t c m k None f h =
+    rgb_from_lem (shape_of (rgb (rgb_content t c m k None))) (element_of (elements_for i (rgb (rgb_content t c m k None))) f) (rgb_content t c m k None)
     (first_of (PlanIn.text_in (length t)) _ _ (text_back t))
     (first_of (PlanIn.curve_in (is_gamma c)) _ _ (λ r. curve_back c r h.curve))
     (first_of (PlanIn.numbers_in 9) _ _ (λ r. sf32_back 9 m r h.chad_nine h.chad))
@@ -203,15 +203,15 @@ rgb_back i t c m k Absent f h =
     (first_of (PlanIn.numbers_in 3) _ _ (green_back k h.columns_nine h.columns))
     (first_of (PlanIn.numbers_in 3) _ _ (blue_back k h.columns_nine h.columns))
     refl
-rgb_back i t c m k (Primaries v) f h =
-    rgb_from_lem (shape_of (rgb (rgb_content t c m k (Primaries v)))) (element_of (elements_for i (rgb (rgb_content t c m k (Primaries v)))) f) (rgb_content t c m k (Primaries v))
+rgb_back i t c m k (Some v) f h =
+    rgb_from_lem (shape_of (rgb (rgb_content t c m k (Some v)))) (element_of (elements_for i (rgb (rgb_content t c m k (Some v)))) f) (rgb_content t c m k (Some v))
     (first_of (PlanIn.text_in (length t)) _ _ (text_back t))
     (first_of (PlanIn.curve_in (is_gamma c)) _ _ (λ r. curve_back c r h.curve))
     (first_of (PlanIn.numbers_in 9) _ _ (λ r. sf32_back 9 m r h.chad_nine h.chad))
     (first_of (PlanIn.numbers_in 3) _ _ (red_back k h.columns_nine h.columns))
     (first_of (PlanIn.numbers_in 3) _ _ (green_back k h.columns_nine h.columns))
     (first_of (PlanIn.numbers_in 3) _ _ (blue_back k h.columns_nine h.columns))
-    (ap Primaries (first_of (λ b. get_or b 8 0) _ _ (cicp_back v c)))
+    (ap Some (first_of (λ b. get_or b 8 0) _ _ (cicp_back v c)))
 
 pub content_back : (i : ℕ) (c : Content) (f : List ℕ) → GoodContent (SFits w32) c
     → PlanIn.content_from (shape_of c).kind (shape_of c) (element_of (elements_for i c) f) ≡ c

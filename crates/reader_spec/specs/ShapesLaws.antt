@@ -1,9 +1,11 @@
 -- Every shape that there is has a plan. Assumes nothing.
-use Rattle.std.specs.Prelude.{ℕ, ◌≤◌, ◌≡◌, refl, Bool, true, false, pos, replicate}
+use Rattle.std.specs.Prelude.{ℕ, ◌≤◌, ◌≡◌, refl, Bool, true, false, pos, replicate, Option, Some, None}
 use Rattle.std.proofs.Common.{◌∙◌, inl, arith}
 use Rattle.std.proofs.lemmas.List.{length-replicate}
 use Rattle.buffer.specs.AllLaws.{All-replicate}
-use Rattle.profile.specs.Plan.{max_letters, Plan, GrayWhite, unadapted, adapted, GoodWhite, Content, gray, rgb, xyb, plain_plan, kind_of, GoodText, GoodCurve, GoodCicp, GoodContent, InRange, Valid}
+use Rattle.profile.specs.Plan.{max_letters, Plan, GoodWhite, Content, gray, rgb, xyb, plain_plan, kind_of, GoodText, GoodCurve, GoodCicp, GoodContent, InRange, Valid}
+use Rattle.profile.specs.declared.GrayWhite.{GrayWhite}
+use Rattle.profile.specs.declared.GrayWhite.TheVariants.{Unadapted, Adapted}
 use Rattle.profile.specs.declared.Kind.{Kind}
 use Rattle.profile.specs.declared.Kind.TheVariants.{Gray, Rgb, Xyb}
 use Rattle.profile.specs.PlanLaws.{good_nines, slots_shape}
@@ -13,20 +15,18 @@ use Rattle.profile.specs.declared.Shape.{Shape}
 use Rattle.profile.specs.declared.CurveName.TheVariants.{SRGB}
 use Rattle.profile.specs.declared.Curve.{Curve}
 use Rattle.profile.specs.declared.Curve.TheVariants.{Named, Gamma}
-use Rattle.profile.specs.declared.Cicp.{Cicp}
-use Rattle.profile.specs.declared.Cicp.TheVariants.{Absent, Primaries}
 
 abbrev curve_for : Bool → Curve
 curve_for true = Gamma (pos 0)
 curve_for false = Named SRGB
 
-abbrev cicp_for : Bool → Cicp
-cicp_for true = Primaries 1
-cicp_for false = Absent
+abbrev cicp_for : Bool → Option ℕ
+cicp_for true = Some 1
+cicp_for false = None
 
 abbrev white_for : Bool → GrayWhite
-white_for true = adapted (replicate 9 (pos 0))
-white_for false = unadapted (pos 0) (pos 0)
+white_for true = Adapted (replicate 9 (pos 0))
+white_for false = Unadapted (pos 0) (pos 0)
 
 abbrev content_for : Kind → ℕ → Bool → Bool → Bool → Content
 content_for Gray n g v a = gray (record { text = replicate n 65; curve = curve_for g; white = white_for a })

@@ -1,16 +1,16 @@
 -- Each of the reader's tests is true exactly if what it tests holds. Assumes nothing.
-use Rattle.std.specs.Prelude.{ℕ, ◌≡◌, refl, ◌⊎◌, Bool, true, false, ◌||◌, List, [], ◌∷◌, T, leb, eqb, ℤ, pos, nat_abs, replicate}
-use Rattle.std.proofs.Common.{inl, inr, le-leb, leb→le, eqb→eq, arith}
+use Rattle.std.specs.Prelude.{ℕ, ◌≡◌, refl, ◌⊎◌, Bool, true, false, ◌||◌, List, [], ◌∷◌, T, leb, eqb, ℤ, nat_abs, Option, Some, None}
+use Rattle.std.proofs.Common.{inl, inr, le-leb, leb→le, eqb→eq}
 use Rattle.numbers.specs.Fixed.{largest}
 use Rattle.buffer.specs.All.{All, none, more}
 use Rattle.buffer.specs.BoolLaws.{holds, both, both_left, both_right}
-use Rattle.profile.specs.Plan.{GrayWhite, unadapted, adapted, Content, gray, rgb, xyb, InRange, GoodCurve, GoodCicp, GoodWhite, GoodContent, CicpPrimaries}
-use Rattle.profile.specs.Numbers.{numbers_with, white_x_of, white_z_of, white_chad, numbers_for}
+use Rattle.profile.specs.Plan.{Content, gray, rgb, xyb, InRange, GoodCurve, GoodCicp, GoodWhite, GoodContent, CicpPrimaries}
+use Rattle.profile.specs.Numbers.{numbers_with, numbers_for}
+use Rattle.profile.specs.declared.GrayWhite.{GrayWhite}
+use Rattle.profile.specs.declared.GrayWhite.TheVariants.{Unadapted, Adapted}
 use Rattle.profile.specs.declared.Curve.{Curve}
 use Rattle.profile.specs.declared.Curve.TheVariants.{Named, Gamma}
 use Rattle.profile.specs.declared.CurveName.{CurveName}
-use Rattle.profile.specs.declared.Cicp.{Cicp}
-use Rattle.profile.specs.declared.Cicp.TheVariants.{Absent, Primaries}
 use Rattle.reader_spec.specs.Decide.{in_range_lem}
 use Rattle.reader_spec.specs.DecideLaws.{decided_yes, decided_if, decided_test}
 use Rattle.reader_spec.specs.Tests
@@ -72,70 +72,49 @@ value_of v (inr (inl e)) = rw e
 value_of v (inr (inr (inl e))) = rw e
 value_of v (inr (inr (inr e))) = rw e
 
-pub cicp_if : (n : CurveName) (v : Cicp) → Tests.cicp_good v ≡ true → GoodCicp (Named n) v
-cicp_if n Absent e = tt
-cicp_if n (Primaries v) e = value_if v e
+pub cicp_if : (n : CurveName) (v : Option ℕ) → Tests.cicp_good v ≡ true → GoodCicp (Named n) v
+cicp_if n None e = tt
+cicp_if n (Some v) e = value_if v e
 
-pub cicp_of_lem : (c : Curve) (v : Cicp) → GoodCicp c v → Tests.cicp_good v ≡ true
-cicp_of_lem c Absent h = refl
-cicp_of_lem (Named n) (Primaries v) h = value_of v h
-cicp_of_lem (Gamma g) (Primaries v) h = absurd h
+pub cicp_of_lem : (c : Curve) (v : Option ℕ) → GoodCicp c v → Tests.cicp_good v ≡ true
+cicp_of_lem c None h = refl
+cicp_of_lem (Named n) (Some v) h = value_of v h
+cicp_of_lem (Gamma g) (Some v) h = absurd h
 
 -- ---- the numbers of a plan that is one but for their range
 
-zeros_in_range : Tests.all_in_range (replicate 9 (pos 0)) ≡ true
-unfolding Tests.all_in_range
-zeros_in_range = simp (in_range_of (pos 0) (omega arith))
+white_in_range_if : (N : ℤ → Type 0) (w : GrayWhite) → GoodWhite N w → Tests.white_in_range w ≡ true → GoodWhite InRange w
+white_in_range_if N (Unadapted x z) h e = (in_range_if x (both_left _ _ e), in_range_if z (both_right (Tests.in_range x) _ e))
+white_in_range_if N (Adapted m) h e = (h.0, all_in_range_if m e)
 
-zero-in_range : Tests.in_range (pos 0) ≡ true
-zero-in_range = in_range_of (pos 0) (omega arith)
-
--- X, Z and `chad` of a gray white, of which it has the first two or the third
-pub record WhiteTested (w : GrayWhite) : Type 0 where
-  pub x : Tests.in_range (white_x_of w) ≡ true
-  pub z : Tests.in_range (white_z_of w) ≡ true
-  pub chad : Tests.all_in_range (white_chad w) ≡ true
-
-white_in_range_if : (N : ℤ → Type 0) (w : GrayWhite) → GoodWhite N w → WhiteTested w → GoodWhite InRange w
-white_in_range_if N (unadapted x z) h e = (in_range_if x e.x, in_range_if z e.z)
-white_in_range_if N (adapted m) h e = (h.0, all_in_range_if m e.chad)
-
-white_in_range_of : (w : GrayWhite) → GoodWhite InRange w → WhiteTested w
-white_in_range_of (unadapted x z) h = record { x = in_range_of x h.0; z = in_range_of z h.1; chad = zeros_in_range }
-white_in_range_of (adapted m) h = record { x = zero-in_range; z = zero-in_range; chad = all_in_range_of h.1 }
+white_in_range_of : (w : GrayWhite) → GoodWhite InRange w → Tests.white_in_range w ≡ true
+white_in_range_of (Unadapted x z) h = both (in_range_of x h.0) (in_range_of z h.1)
+white_in_range_of (Adapted m) h = all_in_range_of h.1
 
 module _ (N : ℤ → Type 0) (a b i : ℕ) where
   pub in_range_content : (c : Content) → GoodContent N c → Tests.numbers_in_range (numbers_with a b (numbers_for i c)) ≡ true → GoodContent InRange c
   unfolding Tests.numbers_in_range
   in_range_content (gray g) h e =
-      let r = both_right (Tests.curve_in_range g.curve) _ e in
-      let s = both_right (Tests.in_range (white_x_of g.white)) _ r in
-      let t = both_right (Tests.in_range (white_z_of g.white)) _ s in
       record {
         text = h.text;
         curve = curve_in_range_if g.curve (both_left _ _ e);
-        white = white_in_range_if N g.white h.white (record { x = both_left _ _ r; z = both_left _ _ s; chad = both_left _ _ t });
+        white = white_in_range_if N g.white h.white (both_right (Tests.curve_in_range g.curve) _ e);
       }
   in_range_content (rgb g) h e =
       let r = both_right (Tests.curve_in_range g.curve) _ e in
-      let s = both_right (Tests.in_range (pos 0)) _ (both_right (Tests.in_range (pos 0)) _ r) in
       record {
         text = h.text;
         curve = curve_in_range_if g.curve (both_left _ _ e);
         chad_nine = h.chad_nine;
-        chad = all_in_range_if g.chad (both_left _ _ s);
+        chad = all_in_range_if g.chad (both_left _ _ r);
         columns_nine = h.columns_nine;
-        columns = all_in_range_if g.columns (both_right (Tests.all_in_range g.chad) _ s);
+        columns = all_in_range_if g.columns (both_right (Tests.all_in_range g.chad) _ r);
         cicp = h.cicp;
       }
   in_range_content xyb h e = tt
 
 pub content_in_range : (a b i : ℕ) (c : Content) → GoodContent InRange c → Tests.numbers_in_range (numbers_with a b (numbers_for i c)) ≡ true
 unfolding Tests.numbers_in_range
-content_in_range a b i (gray g) h =
-    let w = white_in_range_of g.white h.white in
-    both (curve_in_range_of g.curve h.curve) (both w.x (both w.z (both w.chad zeros_in_range)))
-content_in_range a b i (rgb g) h =
-    both (curve_in_range_of g.curve h.curve)
-    (both zero-in_range (both zero-in_range (both (all_in_range_of h.chad) (all_in_range_of h.columns))))
-content_in_range a b i xyb h = both refl (both zero-in_range (both zero-in_range (both zeros_in_range zeros_in_range)))
+content_in_range a b i (gray g) h = both (curve_in_range_of g.curve h.curve) (white_in_range_of g.white h.white)
+content_in_range a b i (rgb g) h = both (curve_in_range_of g.curve h.curve) (both (all_in_range_of h.chad) (all_in_range_of h.columns))
+content_in_range a b i xyb h = refl
