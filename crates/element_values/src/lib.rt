@@ -38,23 +38,15 @@ pub fn curve_parameters(name: CurveName) -> [i32; 5]
     }
 }
 
-fn transfer_of_name(name: CurveName) -> u8
-    ensures { result ≡ TagTypes.transfer (Curve.Named name) }
-{
-    match name {
-        CurveName::BT709 => 1,
-        CurveName::Linear => 8,
-        CurveName::SRGB => 13,
-        CurveName::DCI => 17,
-    }
-}
-
 // The value of TransferCharacteristics; a gamma has none, and no `cicp` tag.
 fn transfer(curve: Curve) -> u8
     ensures { result ≡ TagTypes.transfer curve }
 {
     match curve {
-        Curve::Named(name) => transfer_of_name(name),
+        Curve::Named(CurveName::BT709) => 1,
+        Curve::Named(CurveName::Linear) => 8,
+        Curve::Named(CurveName::SRGB) => 13,
+        Curve::Named(CurveName::DCI) => 17,
         Curve::Gamma(_) => 0,
     }
 }
