@@ -1,48 +1,45 @@
-// 3 by 3 matrices and 3-vectors of f64 by value, and their products: util/linalg.rs. (The inverse is in matrix_inverse.)
+// 3 by 3 matrices and 3-vectors by value, their entries, and the products of those of f64: util/linalg.rs. (The inverse is in matrix_inverse.)
 
 #![tactic(auto)]
 
-ghost use Rattle.std.specs.Prelude.{◌≡◌, ◌<◌};
-ghost use Rattle.floats.specs.Binary64.{◌⊗◌};
-ghost use Rattle.linalg.specs.Linalg.{three, component, entry, column, dot, applied, product};
+ghost use Rattle.std.specs.Prelude.{◌≡◌, ◌<◌, ◌++◌};
+ghost use Rattle.linalg.specs.Linalg.{three, entry_or, column, dot, applied, product};
 
 pub type Matrix3x3 = [[f64; 3]; 3];
 
 pub type Vector3 = [f64; 3];
 
-pub fn entry(matrix: Matrix3x3, i: usize, j: usize) -> f64
+pub fn entry<T: Copy>(m: [[T; 3]; 3], i: usize, j: usize) -> T
     requires { (i < 3) × (j < 3) }
-    ensures { result ≡ entry matrix i j }
+    ensures { (d : T) → result ≡ entry_or d m i j }
 {
-    matrix[i][j]
+    m[i][j]
 }
 
-fn column(matrix: Matrix3x3, j: usize) -> Vector3
+pub fn column<T: Copy>(m: [[T; 3]; 3], j: usize) -> [T; 3]
     requires { j < 3 }
-    ensures { result ≡ column matrix j }
+    ensures { (d : T) → result ≡ three (λ i. entry_or d m i j) }
 {
-    [
-        entry(matrix, 0, j),
-        entry(matrix, 1, j),
-        entry(matrix, 2, j),
-    ]
+    [entry(m, 0, j), entry(m, 1, j), entry(m, 2, j)]
 }
 
-// A term of the product of two vectors.
-fn term(a: Vector3, b: Vector3, k: usize) -> f64
-    requires { k < 3 }
-    ensures { result ≡ component a k ⊗ component b k }
+// The nine entries, row by row.
+pub fn rows<T: Copy>(m: [[T; 3]; 3]) -> [T; 9]
+    ensures { (d : T) → result ≡ three (entry_or d m 0) ++ three (entry_or d m 1) ++ three (entry_or d m 2) }
 {
-    a[k] * b[k]
+    let [[a, b, c], [d, e, f], [g, h, i]] = m;
+    [a, b, c, d, e, f, g, h, i]
 }
 
 // The sum of the products of like components. It starts with its first term.
+#[tactic(auto, unfolding(crate::specs::Linalg::dot))]
 pub fn dot(a: Vector3, b: Vector3) -> f64
     ensures { result ≡ dot a b }
 {
-    term(a, b, 0) + term(a, b, 1) + term(a, b, 2)
+    a[0] * b[0] + a[1] * b[1] + a[2] * b[2]
 }
 
+#[tactic(auto, unfolding(crate::specs::Linalg::applied))]
 pub fn mul_3x3_vector(matrix: Matrix3x3, vector: Vector3) -> Vector3
     ensures { result ≡ applied matrix vector }
 {
@@ -64,6 +61,7 @@ fn product_row(row: Vector3, matrix: Matrix3x3) -> Vector3
     ]
 }
 
+#[tactic(auto, unfolding(crate::specs::Linalg::product))]
 pub fn mul_3x3_matrix(mat1: Matrix3x3, mat2: Matrix3x3) -> Matrix3x3
     ensures { result ≡ product mat1 mat2 }
 {

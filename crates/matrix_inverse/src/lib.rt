@@ -29,6 +29,7 @@ fn upper(r: usize) -> usize
 }
 
 // The determinant of what is left of the matrix without row r and column c.
+#[tactic(auto, unfolding(crate::specs::Inverse::minor))]
 fn minor(m: Matrix3x3, r: usize, c: usize) -> f64
     ensures { result ≡ minor m r c }
 {
@@ -44,6 +45,7 @@ fn minor(m: Matrix3x3, r: usize, c: usize) -> f64
     )
 }
 
+#[tactic(auto, unfolding(crate::specs::Inverse::cofactor))]
 fn calculate_cofactor(m: Matrix3x3, r: usize, c: usize) -> f64
     requires { (r < 3) × (c < 3) }
     ensures { result ≡ cofactor m r c }
@@ -67,6 +69,7 @@ fn cofactor_row(m: Matrix3x3, r: usize) -> Vector3
     ]
 }
 
+#[tactic(auto, unfolding(crate::specs::Inverse::cofactors))]
 fn cofactor_matrix(m: Matrix3x3) -> Matrix3x3
     ensures { result ≡ cofactors m }
 {
@@ -78,11 +81,8 @@ fn scaled_column(m: Matrix3x3, j: usize, factor: f64) -> Vector3
     requires { j < 3 }
     ensures { result ≡ three (λ i. entry m i j ⊗ factor) }
 {
-    [
-        linalg::entry(m, 0, j) * factor,
-        linalg::entry(m, 1, j) * factor,
-        linalg::entry(m, 2, j) * factor,
-    ]
+    let [a, b, c] = linalg::column(m, j);
+    [a * factor, b * factor, c * factor]
 }
 
 fn scaled_transpose(m: Matrix3x3, factor: f64) -> Matrix3x3
@@ -96,6 +96,7 @@ fn scaled_transpose(m: Matrix3x3, factor: f64) -> Matrix3x3
 }
 
 // Expanded along the first row.
+#[tactic(auto, unfolding(crate::specs::Inverse::determinant, crate::specs::Inverse::cofactors))]
 fn determinant(m: Matrix3x3) -> f64
     ensures { result ≡ determinant m }
 {
@@ -103,6 +104,7 @@ fn determinant(m: Matrix3x3) -> f64
 }
 
 // Whether the determinant is too near to zero for an inverse; that of a NaN is not.
+#[tactic(auto, unfolding(crate::specs::Inverse::singular))]
 pub fn is_singular(m: Matrix3x3) -> bool
     ensures { result ≡ singular m }
 {
@@ -110,6 +112,7 @@ pub fn is_singular(m: Matrix3x3) -> bool
 }
 
 // The inverse of a matrix that is not singular; for one that is, the same operations.
+#[tactic(auto, unfolding(crate::specs::Inverse::inverse, crate::specs::Inverse::adjugate, crate::specs::Inverse::determinant))]
 pub fn inv_3x3_matrix(m: Matrix3x3) -> Matrix3x3
     ensures { result ≡ inverse m }
 {

@@ -7,8 +7,6 @@ use Rattle.floats.specs.Abs.{abs}
 use Rattle.floats.specs.Binary32.{◌⊖◌, ◌⊗◌, ◌⊘◌, one}
 use Rattle.buffer.specs.Checked.{Checked, is, refused}
 use Rattle.color_encoding.specs.declared.WhiteXy.{WhiteXy}
-use Rattle.white_point.specs.declared.WhiteXyz.{WhiteXyz}
-use Rattle.white_point.specs.declared.WhiteXyz.TheVariants.{Xyz, InvalidWhitePointY}
 
 -- 1e-12
 abbrev pub epsilon : Float
@@ -27,8 +25,3 @@ unfoldable pub cie_xyz_from_white_cie_xy : WhiteXy → Checked (List Float)
 cie_xyz_from_white_cie_xy w =
     let factor = one ⊘ w.wy in
     cond (lt (abs w.wy) epsilon) invalid_white_point_y (is (w.wx ⊗ factor ∷ one ∷ gray_z w ⊗ factor ∷ []))
-
--- the value of an answer, or its number on the refusal list of 01
-abbrev pub checked_white_xyz : WhiteXyz → Checked (List Float)
-checked_white_xyz (Xyz x y z) = is (x ∷ y ∷ z ∷ [])
-checked_white_xyz InvalidWhitePointY = invalid_white_point_y

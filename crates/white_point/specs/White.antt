@@ -1,7 +1,8 @@
 -- The XYZ of an RGB white point with Y = 1, in f64, as `adapt_to_xyz_d50` and `primaries_to_xyz` of api/color.rs begin. (The range of its
 -- coordinates is in color_encoding, Range.) Assumes nothing.
-use Rattle.std.specs.Prelude.{Bool, true, false, ◌&&◌, List, [], ◌∷◌, Float}
-use Rattle.std.specs.Float.{nan, inf, fin}
+use Rattle.std.specs.Prelude.{Bool, ◌&&◌, List, [], ◌∷◌, Float}
+-- Rust's `is_finite`
+unfoldable pub use Rattle.std.specs.Float.{float_is_finite as finite}
 use Rattle.floats.specs.Binary64.{◌⊖◌, ◌⊘◌, one}
 use Rattle.linalg.specs.Linalg.{component}
 use Rattle.color_encoding.specs.declared.WhiteXy.{WhiteXy}
@@ -13,12 +14,6 @@ white_z_of w = one ⊖ w.wx ⊖ w.wy
 -- X, Y and Z with Y = 1: x / y, 1, z / y
 unfoldable pub white_xyz : WhiteXy → List Float
 white_xyz w = w.wx ⊘ w.wy ∷ one ∷ white_z_of w ⊘ w.wy ∷ []
-
--- Rust's `is_finite`
-unfoldable pub finite : Float → Bool
-finite nan = false
-finite (inf s) = false
-finite (fin s m e) = true
 
 -- X and Z are finite
 unfoldable pub finite_xyz : List Float → Bool

@@ -5,24 +5,20 @@
 
 ghost use Rattle.std.specs.Prelude.{◌≡◌};
 ghost use Rattle.color_encoding.specs.Range.{in_range};
-ghost use Rattle.white_point.specs.White.{white_z_of, white_xyz, finite, finite_xyz};
-ghost use Rattle.white_point.specs.GrayWhite.{gray_z, cie_xyz_from_white_cie_xy, checked_white_xyz};
+ghost use Rattle.refusals.specs.Refusals.{checked};
+ghost use Rattle.white_point.specs.White.{white_z_of, white_xyz, finite_xyz};
+ghost use Rattle.white_point.specs.GrayWhite.{gray_z, cie_xyz_from_white_cie_xy};
 
 use color_encoding::WhiteXy;
 use linalg::Vector3;
-
-// The XYZ of a gray white, or that y is too near to zero.
-#[derive(Clone, Copy)]
-pub enum WhiteXyz {
-    Xyz { x: f32, y: f32, z: f32 },
-    InvalidWhitePointY,
-}
+use refusals::Refusal;
 
 // x lies in [0, 1] and y in (0, 1].
+#[tactic(auto, unfolding(color_encoding::specs::Range::in_range))]
 pub fn in_range(white: WhiteXy) -> bool
     ensures { result ≡ in_range white }
 {
-    0.0 <= white.wx && white.wx <= 1.0 && (white.wy > 0.0 && white.wy <= 1.0)
+    (0.0..=1.0).contains(&white.wx) && (white.wy > 0.0 && white.wy <= 1.0)
 }
 
 // z = 1 - x - y of an RGB white, in f64.
@@ -35,6 +31,7 @@ fn white_z(white: WhiteXy) -> f64
 }
 
 // XYZ with Y = 1.
+#[tactic(auto, unfolding(crate::specs::White::white_xyz))]
 pub fn white_xyz(white: WhiteXy) -> Vector3
     ensures { result ≡ white_xyz white }
 {
@@ -43,19 +40,12 @@ pub fn white_xyz(white: WhiteXy) -> Vector3
     [wx / wy, 1.0, white_z(white) / wy]
 }
 
-pub fn is_finite(x: f64) -> bool
-    ensures { result ≡ finite x }
-{
-    // A NaN is on neither side of an infinity.
-    let infinity = 1.0f64 / 0.0;
-    -infinity < x && x < infinity
-}
-
 // Only X and Z can overflow.
+#[tactic(auto, unfolding(crate::specs::White::finite_xyz))]
 pub fn finite_xyz(v: Vector3) -> bool
     ensures { result ≡ finite_xyz v }
 {
-    is_finite(v[0]) && is_finite(v[2])
+    v[0].is_finite() && v[2].is_finite()
 }
 
 // z = 1 - x - y of a gray white, in f32.
@@ -66,18 +56,15 @@ fn gray_z(white: WhiteXy) -> f32
 }
 
 // The XYZ of a gray profile's white, wholly in f32.
-pub fn cie_xyz_from_white_cie_xy(white: WhiteXy) -> WhiteXyz
-    ensures { checked_white_xyz result ≡ cie_xyz_from_white_cie_xy white }
+#[tactic(auto, unfolding(crate::specs::GrayWhite::cie_xyz_from_white_cie_xy))]
+pub fn cie_xyz_from_white_cie_xy(white: WhiteXy) -> Result<[f32; 3], Refusal>
+    ensures { checked result ≡ cie_xyz_from_white_cie_xy white }
 {
     let wx = white.wx;
     let wy = white.wy;
     if floats::binary32::abs_below(wy, 1e-12) {
-        return WhiteXyz::InvalidWhitePointY;
+        return Err(Refusal::InvalidWhitePointY);
     }
     let factor = 1.0 / wy;
-    WhiteXyz::Xyz {
-        x: wx * factor,
-        y: 1.0,
-        z: gray_z(white) * factor,
-    }
+    Ok([wx * factor, 1.0, gray_z(white) * factor])
 }
