@@ -1,13 +1,10 @@
--- What callers may rely on in an answer. In an entry: a section's number, a place that a one-byte count reaches, floats that binary32 holds. In a
+-- What callers may rely on in an answer. In an entry: a place that a one-byte count reaches, floats that binary32 holds. In a
 -- number of entries: three sections of up to 255. In a refusal: 43 is the greatest. Assumes nothing.
-use Rattle.std.specs.Prelude.{ℕ, ◌*◌, ◌≤◌, ◌<◌, ◌≡◌, List, length}
+use Rattle.std.specs.Prelude.{Option, Some, None, ℕ, ◌*◌, ◌≤◌, ◌<◌, ◌≡◌, List, length}
 use Rattle.buffer.specs.All.{All}
+use Rattle.buffer.specs.Checked.{Checked, is, refused}
 use Rattle.text.specs.Held.{HeldEncoding}
 use Rattle.job.specs.declared.JobEntry.{JobEntry}
-use Rattle.job.specs.declared.JobAnswer.{JobAnswer}
-use Rattle.job.specs.declared.JobAnswer.TheVariants as A
-use Rattle.job.specs.declared.EntryAnswer.{EntryAnswer}
-use Rattle.job.specs.declared.EntryAnswer.TheVariants as E
 
 abbrev pub most_in_section : ℕ
 most_in_section = 255
@@ -19,25 +16,24 @@ abbrev pub greatest_refusal : ℕ
 greatest_refusal = 43
 
 pub record EntryBounds (e : JobEntry) : Type 0 where
-  pub section : e.section ≤ 3
   pub place : e.place ≤ most_in_section
   pub floats : HeldEncoding e.encoding
 
-abbrev pub EntryAnswerBounds : EntryAnswer → Type 0
-EntryAnswerBounds (E.Is e) = EntryBounds e
-EntryAnswerBounds E.Absent = Unit {0}
-EntryAnswerBounds (E.Refused k) = k ≤ greatest_refusal
+abbrev pub EntryAnswerBounds : Checked (Option JobEntry) → Type 0
+EntryAnswerBounds (is (Some e)) = EntryBounds e
+EntryAnswerBounds (is None) = Unit {0}
+EntryAnswerBounds (refused k) = k ≤ greatest_refusal
 
-abbrev pub JobAnswerBounds : JobAnswer → Type 0
-JobAnswerBounds (A.Entries n) = n ≤ most_entries
-JobAnswerBounds (A.Refused k) = k ≤ greatest_refusal
+abbrev pub JobAnswerBounds : Checked ℕ → Type 0
+JobAnswerBounds (is n) = n ≤ most_entries
+JobAnswerBounds (refused k) = k ≤ greatest_refusal
 
 -- the answer of a call, and its bounds
-pub record AnswersEntry (said r : EntryAnswer) : Type 0 where
+pub record AnswersEntry (said r : Checked (Option JobEntry)) : Type 0 where
   pub answer : r ≡ said
   pub bounds : EntryAnswerBounds r
 
-pub record AnswersJob (said r : JobAnswer) : Type 0 where
+pub record AnswersJob (said r : Checked ℕ) : Type 0 where
   pub answer : r ≡ said
   pub bounds : JobAnswerBounds r
 

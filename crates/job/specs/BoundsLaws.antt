@@ -1,5 +1,5 @@
 -- Every entry of a job is within, and so is every answer. Assumes nothing.
-use Rattle.std.specs.Prelude.{ℕ, zero, suc, ◌+◌, ◌≤◌, ◌≡◌, List, drop, Float}
+use Rattle.std.specs.Prelude.{Option, ℕ, zero, suc, ◌+◌, ◌≤◌, ◌≡◌, List, drop, Float}
 use Rattle.std.proofs.Common.{sym, subst, lit≤}
 use Rattle.std.specs.Float.{binary32}
 use Rattle.std.specs.Float.Ieee.Bits.{of_bits-fits}
@@ -12,7 +12,8 @@ use Rattle.text.specs.Held.{Held, HeldWhite, HeldPrimaries, HeldTransfer, HeldEn
 use Rattle.job_entry.specs.Entry.{byte_at, float_at, white_at, primaries_at, curve_at, intent_at, gray_encoding, rgb_encoding, xyb_encoding}
 use Rattle.job.specs.Counts.{told_of}
 use Rattle.job.specs.Bounds.{EntryAnswerBounds, greatest_refusal}
-use Rattle.job.specs.declared.EntryAnswer.{EntryAnswer}
+use Rattle.job.specs.declared.Section.{Section}
+use Rattle.job.specs.declared.JobEntry.{JobEntry}
 
 -- a value that a check gave, or the number of its refusal
 abbrev Given : {A : Type 0} → (A → Type 0) → Checked A → Type 0
@@ -96,9 +97,9 @@ module _ (b : List ℕ) where
   held_xyb = given_then (λ (i : RenderingIntent). Unit {0}) HeldEncoding (intent_at b 0) _ (any_intent (byte_at b 0)) (λ i hi. tt)
 
 -- an entry at a place of a section
-pub bounds_told : (s k : ℕ) (c : Checked JxlColorEncoding) → s ≤ 3 → k ≤ 255 → Given HeldEncoding c → EntryAnswerBounds (told_of s k c)
-bounds_told s k (is e) a b h = record { section = a; place = b; floats = h }
-bounds_told s k (refused n) a b h = h
+pub bounds_told : (s : Section) (k : ℕ) (c : Checked JxlColorEncoding) → k ≤ 255 → Given HeldEncoding c → EntryAnswerBounds (told_of s k c)
+bounds_told s k (is e) b h = record { place = b; floats = h }
+bounds_told s k (refused n) b h = h
 
-pub bounds_same : {a b : EntryAnswer} → a ≡ b → EntryAnswerBounds b → EntryAnswerBounds a
-bounds_same {a} {b} e h = subst (λ (x : EntryAnswer). EntryAnswerBounds x) (sym e) h
+pub bounds_same : {a b : Checked (Option JobEntry)} → a ≡ b → EntryAnswerBounds b → EntryAnswerBounds a
+bounds_same {a} {b} e h = subst (λ (x : Checked (Option JobEntry)). EntryAnswerBounds x) (sym e) h

@@ -1,57 +1,33 @@
 -- The three sections one after another, by the laws of CountsLaws. Assumes nothing.
-use Prim.Native.Nat.{◌+◌, ◌*◌}
-use mathlib.Core.Path.{◌≡◌}
-use native.Mathlib.Omega.{arith}
-use lib.Dec.{lit≤}
-use lib.ListN.{length}
-use Rattle.job.specs.Counts.{SpanIs}
+use Rattle.std.proofs.Common.{◌≡◌, ◌+◌, ◌*◌, length, arith, lit≤}
+use Rattle.std.proofs.lemmas.Result.{err_from_is_err_and}
 use Rattle.job.specs.CountsLaws.{early_gray, early_rgb, early_xyb, bytes_left_lem, all_there}
-use Rattle.job.specs.declared.Span.TheVariants.{Whole}
-use Rattle.job.proofs.Spans.{known}
-use Rattle.job.proofs.section_counts.Goals.{In-Whole, In-Whole-section_at, In-Whole-section_at-2}
 use Rattle.job.proofs.section_counts.Goals as goal
 
--- the sections that were found whole
-gray-is : (c : In-Whole) → SpanIs c.args.job.now 0 15 (Whole c.in-Whole.gray)
-gray-is c = known c.args.job.now 0 15 c.in-Whole.is c.section_at.ensures
+pub returns-in_err-gray : goal.returns-in_err-gray
+returns-in_err-gray c =
+    let p = err_from_is_err_and c.from_residual.result c.from_residual.ensures.1 in
+    rw (p.1, p.2, c.in_err-gray.ensures.number) (record { by = early_gray c.args.job.now c.in_err-gray.ensures.early; filled = lit≤ tt })
 
-rgb-is : (c : In-Whole-section_at)
-    → SpanIs c.args.job.now (1 + c.in-Whole.gray * 15) 40 (Whole c.in-Whole-section_at.rgb)
-rgb-is c = known c.args.job.now (1 + c.in-Whole.gray * 15) 40 c.in-Whole-section_at.is c.section_at-2.ensures
+pub returns-in_err-rgb : goal.returns-in_err-rgb
+returns-in_err-rgb c =
+    let p = err_from_is_err_and c.from_residual-in_err-rgb.result c.from_residual-in_err-rgb.ensures.1 in
+    rw (p.1, p.2, c.in_err-rgb.ensures.number) (record { by = early_rgb c.args.job.now _ c.in_ok-gray.ensures c.in_err-rgb.ensures.early; filled = lit≤ tt })
 
-xyb-is : (c : In-Whole-section_at-2)
-    → SpanIs c.args.job.now (1 + c.in-Whole.gray * 15 + 1 + c.in-Whole-section_at.rgb * 40) 1 (Whole c.in-Whole-section_at-2.xyb)
-xyb-is c =
-    known c.args.job.now (1 + c.in-Whole.gray * 15 + 1 + c.in-Whole-section_at.rgb * 40) 1 c.in-Whole-section_at-2.is c.section_at-3.ensures
-
-pub returns-in_default : goal.returns-in_default
-returns-in_default c =
-    let l = c.args.job.now in
-    record { by = early_gray l (known l 0 15 c.in_default.is c.section_at.ensures); filled = lit≤ tt }
-
-pub returns-in_default-section_at : goal.returns-in_default-section_at
-returns-in_default-section_at c =
-    let l = c.args.job.now in
-    let g = c.in-Whole.gray in
-    record { by = early_rgb l g (gray-is (goal.at.returns-in_default-section_at c).In-Whole) (known l (1 + g * 15) 40 c.in_default-section_at.is c.section_at-2.ensures); filled = lit≤ tt }
-
-pub returns-in_default-section_at-2 : goal.returns-in_default-section_at-2
-returns-in_default-section_at-2 c =
-    let l = c.args.job.now in
-    let g = c.in-Whole.gray in
-    let r = c.in-Whole-section_at.rgb in
-    record { by = early_xyb l g (gray-is (goal.at.returns-in_default-section_at-2 c).In-Whole) r (rgb-is (goal.at.returns-in_default-section_at-2 c).In-Whole-section_at) (known l (1 + g * 15 + 1 + r * 40) 1 c.in_default-section_at-2.is c.section_at-3.ensures); filled = lit≤ tt }
+pub returns-in_err-xyb : goal.returns-in_err-xyb
+returns-in_err-xyb c =
+    let p = err_from_is_err_and c.from_residual-in_err-xyb.result c.from_residual-in_err-xyb.ensures.1 in
+    rw (p.1, p.2, c.in_err-xyb.ensures.number)
+    (record { by = early_xyb c.args.job.now _ c.in_ok-gray.ensures _ c.in_ok-rgb.ensures c.in_err-xyb.ensures.early; filled = lit≤ tt })
 
 pub returns-then-xyb_at-xyb : goal.returns-then-xyb_at-xyb
 returns-then-xyb_at-xyb c =
-    let l = c.args.job.now in
-    record { by = bytes_left_lem l _ (gray-is (goal.at.returns-then-xyb_at-xyb c).In-Whole) _ (rgb-is (goal.at.returns-then-xyb_at-xyb c).In-Whole-section_at) _ (xyb-is (goal.at.returns-then-xyb_at-xyb c).In-Whole-section_at-2) (omega arith); filled = lit≤ tt }
+    record { by = bytes_left_lem c.args.job.now _ c.in_ok-gray.ensures _ c.in_ok-rgb.ensures _ c.in_ok-xyb.ensures (omega arith); filled = lit≤ tt }
 
 pub returns : goal.returns
 returns c =
-    let l = c.args.job.now in
-    let a = gray-is (goal.at.returns c).In-Whole in
-    let d = rgb-is (goal.at.returns c).In-Whole-section_at in
-    let e = xyb-is (goal.at.returns c).In-Whole-section_at-2 in
-    let all : 3 + c.in-Whole.gray * 15 + c.in-Whole-section_at.rgb * 40 + c.in-Whole-section_at-2.xyb ≡ length l = omega (arith, e.fits) in
-    record { by = all_there l _ a _ d _ e all; filled = record { all = all; gray_few = a.few; rgb_few = d.few; xyb_few = e.few } }
+    let all : 3 + c.in_ok-gray.gray * 15 + c.in_ok-rgb.rgb * 40 + c.in_ok-xyb.xyb ≡ length c.args.job.now = omega (arith, c.in_ok-xyb.ensures.fits) in
+    record {
+      by = all_there c.args.job.now _ c.in_ok-gray.ensures _ c.in_ok-rgb.ensures _ c.in_ok-xyb.ensures all;
+      filled = record { all = all; gray_few = c.in_ok-gray.ensures.few; rgb_few = c.in_ok-rgb.ensures.few; xyb_few = c.in_ok-xyb.ensures.few };
+    }
