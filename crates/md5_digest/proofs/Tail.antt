@@ -1,9 +1,9 @@
 -- What is left of a message past its whole blocks, padded, as the code lays it into an array of zeros: the bytes that are left, the byte
 -- 128, and the two words of the length at the end of the first or the second block.
 -- Assumes nothing.
-use Rattle.std.proofs.Common.{◌≡◌, ℕ, zero, suc, ◌+◌, ◌-◌, ◌*◌, ◌/◌, ◌%◌, ◌^◌, ◌<◌, ◌≤◌, List, ◌∷◌, ◌++◌, length, take, drop, set, replicate, sym, refl, ap, ◌∙◌, ap₂, append_assoc, le_of_suc-le-suc, not-suc-le-zero, zero-add, arith, length-append, length-drop, take_at, drop_at}
+use Rattle.std.proofs.Common.{◌≡◌, ℕ, suc, ◌+◌, ◌-◌, ◌*◌, ◌/◌, ◌%◌, ◌^◌, ◌<◌, ◌≤◌, List, ◌∷◌, ◌++◌, length, take, drop, set, replicate, sym, ap, ◌∙◌, ap₂, append_assoc, arith, length-append, length-drop, take_at}
 use lib.ListN.{length-replicate, replicate-append-replicate}
-use lib.Seq.{set-append_seam, take-append-add, drop-append-le}
+use lib.Seq.{set-append_seam, drop-append-le}
 use Rattle.buffer.specs.Buffer.{put}
 use Rattle.buffer.specs.BufferLaws.{put_front, put_after}
 use Rattle.buffer.specs.Bytes.{zeros}

@@ -1,7 +1,6 @@
--- Laws of `words_of`, and a word as the code puts it together from its four bytes.
+-- Laws of `words_of`, and a word by its four bytes.
 -- Assumes nothing.
 use Rattle.std.proofs.Common.{◌≡◌, ℕ, zero, suc, ◌+◌, ◌*◌, ◌/◌, ◌%◌, ◌^◌, ◌<◌, ◌≤◌, List, [], ◌∷◌, ◌++◌, length, get_or, take, drop, set, sym, refl, ap, ◌∙◌, ap₂, add-zero, add-one, arith, length-drop, length-take-le, get_or-drop, drop-cons, get_or-take, take-suc, take-suc-set}
-use lib.Bits.{bit_or, or_shifted_r}
 use Rattle.md5_digest.specs.Md5.{words_of, block_at}
 
 -- the words from the k-th on are those of the bytes from the 4k-th on
@@ -38,20 +37,6 @@ words_append (a ∷ b ∷ c ∷ []) t h = absurd (omega arith)
 words_append (a ∷ b ∷ c ∷ d ∷ p) t h =
     let g : length p % 4 ≡ 0 = omega arith in
     ap (λ (r : List ℕ). (a + b * 2 ^ 8 + c * 2 ^ 16 + d * 2 ^ 24) ∷ r) (words_append p t g)
-
--- bytes that are shifted to their places have no bit in common
-pub or_bytes : (a b c d : ℕ) → a < 256 → b < 256 → c < 256 → d < 256
-    → bit_or (bit_or (bit_or a (b * 2 ^ 8 % 2 ^ 32)) (c * 2 ^ 16 % 2 ^ 32)) (d * 2 ^ 24 % 2 ^ 32) ≡ a + b * 2 ^ 8 + c * 2 ^ 16 + d * 2 ^ 24
-or_bytes a b c d ha hb hc hd =
-    let eb : b * 2 ^ 8 % 2 ^ 32 ≡ b * 2 ^ 8 = omega arith in
-    let ec : c * 2 ^ 16 % 2 ^ 32 ≡ c * 2 ^ 16 = omega arith in
-    let ed : d * 2 ^ 24 % 2 ^ 32 ≡ d * 2 ^ 24 = omega arith in
-    let e₁ : bit_or a (b * 2 ^ 8) ≡ b * 2 ^ 8 + a = or_shifted_r b 8 a ha in
-    let e₂ : bit_or (b * 2 ^ 8 + a) (c * 2 ^ 16) ≡ c * 2 ^ 16 + (b * 2 ^ 8 + a) = or_shifted_r c 16 (b * 2 ^ 8 + a) (omega arith) in
-    let e₃ : bit_or (c * 2 ^ 16 + (b * 2 ^ 8 + a)) (d * 2 ^ 24) ≡ d * 2 ^ 24 + (c * 2 ^ 16 + (b * 2 ^ 8 + a)) =
-    or_shifted_r d 24 (c * 2 ^ 16 + (b * 2 ^ 8 + a)) (omega arith) in
-    let last : d * 2 ^ 24 + (c * 2 ^ 16 + (b * 2 ^ 8 + a)) ≡ a + b * 2 ^ 8 + c * 2 ^ 16 + d * 2 ^ 24 = omega arith in
-    rw (eb, ec, ed, e₁, e₂, e₃) last
 
 drop-next : (l : List ℕ) (i j : ℕ) → i < length l → suc i ≡ j → drop i l ≡ get_or l i 0 ∷ drop j l
 drop-next l i j h e = drop-cons l i 0 h ∙ ap (λ (k : ℕ). get_or l i 0 ∷ drop k l) e

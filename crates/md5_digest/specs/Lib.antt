@@ -1,3 +1,2 @@
 pub mod Md5
 pub mod Md5Laws
-pub mod StateIn

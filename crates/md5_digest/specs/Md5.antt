@@ -1,7 +1,7 @@
 -- MD5 as RFC 1321 defines it, of a message that is a list of bytes. Sections, letters and order are the RFC's; the four rounds of 3.4 stand in
 -- crates/md5_rounds/specs/Rounds.antt.
 -- Assumes nothing.
-use Rattle.std.specs.Prelude.{ℕ, zero, suc, ◌+◌, ◌-◌, ◌*◌, ◌/◌, ◌%◌, ◌^◌, List, [], ◌∷◌, ◌++◌, length, get_or, take, drop, replicate}
+use Rattle.std.specs.Prelude.{ℕ, zero, suc, ◌+◌, ◌-◌, ◌*◌, ◌/◌, ◌%◌, ◌^◌, List, [], ◌∷◌, ◌++◌, length, take, drop, replicate}
 use Rattle.words.specs.Words.{le32}
 use Rattle.md5_rounds.specs.declared.State.{State}
 use Rattle.md5_rounds.specs.Rounds.{◌⊞◌, operate, round1, round2, round3, round4}

@@ -6,7 +6,6 @@ ghost use Rattle.std.specs.Prelude.{◌≡◌, ◌+◌, ◌*◌, ◌/◌, ◌<�
 ghost use Rattle.buffer.specs.Buffer.{put};
 ghost use Rattle.md5_rounds.specs.Rounds.{sine_parts};
 ghost use Rattle.md5_digest.specs.Md5.{words_of, message, after_block, block_at, after_blocks, output, md5};
-ghost use Rattle.md5_digest.specs.StateIn.{state_in};
 
 use md5_rounds::{State, round_1, round_2, round_3, round_4};
 use words::put_u32_le;
@@ -24,6 +23,7 @@ const SINEPARTS: [u32; 64] = [
 ];
 
 // The four rounds, and then the sums with the words that the block began with.
+#[tactic(auto, unfolding(crate::specs::Md5::after_block))]
 fn block(words: &[u32; 16], t: &[u32; 64], w: State) -> State
     requires { t.now ≡ sine_parts }
     ensures { result ≡ after_block words.now w }
@@ -33,10 +33,10 @@ fn block(words: &[u32; 16], t: &[u32; 64], w: State) -> State
     let v = round_3(words, t, v);
     let v = round_4(words, t, v);
     State {
-        a: std::num::wrapping_add_u32(v.a, w.a),
-        b: std::num::wrapping_add_u32(v.b, w.b),
-        c: std::num::wrapping_add_u32(v.c, w.c),
-        d: std::num::wrapping_add_u32(v.d, w.d),
+        a: v.a.wrapping_add(w.a),
+        b: v.b.wrapping_add(w.b),
+        c: v.c.wrapping_add(w.c),
+        d: v.d.wrapping_add(w.d),
     }
 }
 
@@ -45,10 +45,7 @@ fn word(data: &[u8], i: usize) -> u32
     requires { i + 4 ≤ length «data».now }
     ensures { result ≡ slice_index (words_of (drop i «data».now)) 0 }
 {
-    (data[i] as u32)
-        | ((data[i + 1] as u32) << 8)
-        | ((data[i + 2] as u32) << 16)
-        | ((data[i + 3] as u32) << 24)
+    u32::from_le_bytes([data[i], data[i + 1], data[i + 2], data[i + 3]])
 }
 
 // The sixteen words of block i.
@@ -63,39 +60,16 @@ fn block_words(data: &[u8], i: usize) -> [u32; 16]
     words
 }
 
-// The buffer's words A, B, C, D (3.3).
-fn state_in(buffer: &[u32]) -> State
-    requires { length buffer.now ≡ 4 }
-    ensures { result ≡ state_in buffer.now }
-{
-    State {
-        a: buffer[0],
-        b: buffer[1],
-        c: buffer[2],
-        d: buffer[3],
-    }
-}
-
-fn put_state(buffer: &mut [u32], w: State)
-    requires { length buffer.old ≡ 4 }
-    ensures { (length buffer.new ≡ 4) × (state_in buffer.new ≡ w) }
-{
-    buffer[0] = w.a;
-    buffer[1] = w.b;
-    buffer[2] = w.c;
-    buffer[3] = w.d;
-}
-
 // All whole blocks of the data, one after the other. The data is read in place. The buffer is lent and stored after each block: for the compiler that
 // may change the table, so that it reads a sine part where it is added and keeps no copies of all 64.
-fn process(data: &[u8], t: &[u32; 64], buffer: &mut [u32])
-    requires { (t.now ≡ sine_parts) × (length buffer.old ≡ 4) }
-    ensures { (length buffer.new ≡ 4) × (state_in buffer.new ≡ after_blocks (length «data».now / 64) (words_of «data».now) (state_in buffer.old)) }
+#[tactic(auto, unfolding(crate::specs::Md5::after_blocks))]
+fn process(data: &[u8], t: &[u32; 64], buffer: &mut State)
+    requires { t.now ≡ sine_parts }
+    ensures { buffer.new ≡ after_blocks (length «data».now / 64) (words_of «data».now) buffer.old }
 {
-    let n = data.len() / 64;
-    for i in 0..n {
+    for i in 0..data.len() / 64 {
         let words = block_words(data, i);
-        put_state(buffer, block(&words, t, state_in(buffer)));
+        *buffer = block(&words, t, *buffer);
     }
 }
 
@@ -149,11 +123,16 @@ fn pad(data: &[u8], tail: &mut [u8]) -> usize
 pub fn compute_md5(data: &[u8]) -> [u8; 16]
     ensures { result ≡ md5 «data».now }
 {
-    let mut buffer = [0x67452301, 0xefcdab89, 0x98badcfe, 0x10325476];
+    let mut buffer = State {
+        a: 0x67452301,
+        b: 0xefcdab89,
+        c: 0x98badcfe,
+        d: 0x10325476,
+    };
     let t = SINEPARTS;
     process(data, &t, &mut buffer);
     let mut tail = [0u8; TWO_BLOCKS];
     let end = pad(data, &mut tail);
     process(&tail[..end], &t, &mut buffer);
-    digest(state_in(&buffer))
+    digest(buffer)
 }
