@@ -14,4 +14,5 @@ pub mod FirstLaws
 pub mod Outputs
 pub mod OutputsLaws
 pub mod Puts
+pub mod Texts
 pub mod PutsLaws
