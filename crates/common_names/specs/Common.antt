@@ -1,7 +1,6 @@
 -- The four common names of RGB encodings: `get_color_encoding_description` of api/color.rs. Assumes nothing.
-use Rattle.std.specs.Prelude.{ℕ, ◌≤◌, ◌≡◌, Bool, cond, ◌&&◌, List, eqb, length, take}
+use Rattle.std.specs.Prelude.{ℕ, ◌<◌, ◌≤◌, ◌≡◌, Bool, cond, ◌&&◌, List, eqb, length, Option, Some, None}
 use Rattle.buffer.specs.Ascii.{ascii}
-use Rattle.buffer.specs.Bytes.{zeros}
 use Rattle.color_encoding.specs.declared.RenderingIntent.{RenderingIntent}
 use Rattle.color_encoding.specs.declared.RenderingIntent.TheVariants.{Perceptual, Relative}
 use Rattle.color_encoding.specs.declared.JxlWhitePoint.{JxlWhitePoint}
@@ -12,7 +11,6 @@ use Rattle.color_encoding.specs.declared.JxlTransferFunction.{JxlTransferFunctio
 use Rattle.color_encoding.specs.declared.JxlTransferFunction.TheVariants as F
 use Rattle.color_encoding.specs.Codes.{white_point_number, primaries_number, transfer_function_number}
 use Rattle.color_encoding.specs.Intent.{intent_number}
-use Rattle.common_names.specs.declared.CommonName.{CommonName}
 
 -- the four are the variants that a pattern of the Rust's `match` names; variants are told apart by their numbers
 abbrev pub matches : JxlWhitePoint → JxlPrimaries → JxlTransferFunction → RenderingIntent → JxlWhitePoint → JxlPrimaries → JxlTransferFunction → RenderingIntent → Bool
@@ -41,19 +39,17 @@ common w p t i text =
     (cond (matches w p t i W.D65 P.BT2100 F.HLG Relative) rec2100_hlg
     text)))
 
--- ---- a name by value: its first `len` letters, and none where that is 0
+-- ---- what the code answers: a name, or none
 
-abbrev pub none : CommonName
-none = record { letters = zeros 10; len = 0 }
+abbrev pub called : Option (List ℕ) → List ℕ → List ℕ
+called None text = text
+called (Some name) text = name
 
-abbrev pub called : CommonName → List ℕ → List ℕ
-called name text = cond (eqb name.len 0) text (take name.len name.letters)
+-- a name has a letter, and at most ten
+abbrev pub Room : Option (List ℕ) → Type 0
+Room None = Unit {0}
+Room (Some name) = (0 < length name) × (length name ≤ 10)
 
--- a name has at most ten letters, and they are there
-pub record Room (name : CommonName) : Type 0 where
-  pub most : name.len ≤ 10
-  pub there : name.len ≤ length name.letters
-
-pub record Named (w : JxlWhitePoint) (p : JxlPrimaries) (t : JxlTransferFunction) (i : RenderingIntent) (name : CommonName) : Type 0 where
+pub record Named (w : JxlWhitePoint) (p : JxlPrimaries) (t : JxlTransferFunction) (i : RenderingIntent) (name : Option (List ℕ)) : Type 0 where
   pub room : Room name
   pub named : (text : List ℕ) → common w p t i text ≡ called name text

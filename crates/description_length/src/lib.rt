@@ -28,65 +28,62 @@ const UNIT_NUMBER: usize = 9;
 fn number_length(x: f32) -> usize
     ensures { LengthOf 48 (seven_decimals x) result }
 {
-    if 0.0 < x {
-        if x <= 1.0 {
-            return UNIT_NUMBER;
-        }
+    if 0.0 < x && x <= 1.0 {
+        return UNIT_NUMBER;
     }
-    let text = decimal::seven_decimals(x);
-    text.len
+    decimal::seven_decimals(x).len
 }
 
 // Two numbers with a separator between them, a comma or another.
+#[tactic(auto, unfolding(text::specs::Description::pair))]
 fn pair_length(x: f32, y: f32) -> usize
     ensures { LengthOf 97 (pair comma x y) result }
 {
-    let first = number_length(x);
-    let second = number_length(y);
-    first + SEPARATOR + second
+    number_length(x) + SEPARATOR + number_length(y)
 }
 
+#[tactic(auto, unfolding(text::specs::Description::white_name))]
 fn white_length(white: JxlWhitePoint) -> usize
     ensures { LengthOf 97 (white_name white) result }
 {
-    if let JxlWhitePoint::Chromaticity { wx, wy } = white {
-        return pair_length(wx, wy);
+    match white {
+        JxlWhitePoint::Chromaticity { wx, wy } => pair_length(wx, wy),
+        _ => NAME,
     }
-    NAME
 }
 
+#[tactic(auto, unfolding(text::specs::Description::primaries_name))]
 fn primaries_length(primaries: JxlPrimaries) -> usize
     ensures { LengthOf 293 (primaries_name primaries) result }
 {
-    if let JxlPrimaries::Chromaticities {
-        rx,
-        ry,
-        gx,
-        gy,
-        bx,
-        by,
-    } = primaries
-    {
-        let red = pair_length(rx, ry);
-        let green = pair_length(gx, gy);
-        let blue = pair_length(bx, by);
-        return red + SEPARATOR + green + SEPARATOR + blue;
+    match primaries {
+        JxlPrimaries::Chromaticities {
+            rx,
+            ry,
+            gx,
+            gy,
+            bx,
+            by,
+        } => {
+            pair_length(rx, ry) + SEPARATOR + pair_length(gx, gy) + SEPARATOR + pair_length(bx, by)
+        }
+        _ => NAME,
     }
-    NAME
 }
 
 // A gamma has a `g` before its number.
+#[tactic(auto, unfolding(text::specs::Description::transfer_name))]
 fn transfer_length(transfer: JxlTransferFunction) -> usize
     ensures { LengthOf 49 (transfer_name transfer) result }
 {
-    if let JxlTransferFunction::Gamma(g) = transfer {
-        let number = number_length(g);
-        return 1 + number;
+    match transfer {
+        JxlTransferFunction::Gamma(g) => 1 + number_length(g),
+        _ => NAME,
     }
-    NAME
 }
 
 // "Gra_", white, intent, curve.
+#[tactic(auto, unfolding(text::specs::Description::gray_text))]
 fn gray_length(
     white: JxlWhitePoint,
     transfer: JxlTransferFunction,
@@ -100,6 +97,7 @@ fn gray_length(
 }
 
 // "RGB_", white, primaries, intent, curve.
+#[tactic(auto, unfolding(text::specs::Description::rgb_text))]
 fn rgb_text_length(
     white: JxlWhitePoint,
     primaries: JxlPrimaries,
@@ -114,6 +112,7 @@ fn rgb_text_length(
 }
 
 // Of a common name, or of the text.
+#[tactic(auto, unfolding(text::specs::Description::rgb_description))]
 fn rgb_length(
     white: JxlWhitePoint,
     primaries: JxlPrimaries,
@@ -122,13 +121,13 @@ fn rgb_length(
 ) -> usize
     ensures { result ≡ length (rgb_description white primaries transfer intent) }
 {
-    let name = common_name(white, primaries, transfer, intent);
-    if name.len == 0 {
-        return rgb_text_length(white, primaries, transfer, intent);
+    match common_name(white, primaries, transfer, intent) {
+        Some(name) => name.len(),
+        None => rgb_text_length(white, primaries, transfer, intent),
     }
-    name.len
 }
 
+#[tactic(auto, unfolding(text::specs::Description::description, text::specs::Description::xyb_text))]
 pub fn description_length(encoding: JxlColorEncoding) -> usize
     ensures { result ≡ length (description encoding) }
 {
@@ -144,8 +143,6 @@ pub fn description_length(encoding: JxlColorEncoding) -> usize
             transfer_function,
             rendering_intent,
         } => gray_length(white_point, transfer_function, rendering_intent),
-        JxlColorEncoding::XYB {
-            rendering_intent: _,
-        } => SPACE + INTENT,
+        JxlColorEncoding::XYB { .. } => SPACE + INTENT,
     }
 }

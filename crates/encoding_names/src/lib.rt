@@ -3,8 +3,7 @@
 
 #![tactic(auto)]
 
-ghost use Rattle.std.specs.Prelude.{◌≡◌, ◌∷◌, [], ◌++◌, ◌+◌, ◌≤◌, ◌<◌, length};
-ghost use Rattle.color_encoding.specs.Codes.{white_point_number, primaries_number, transfer_function_number};
+ghost use Rattle.std.specs.Prelude.{◌∷◌, [], ◌++◌, ◌+◌, ◌≤◌, length};
 ghost use Rattle.decimal.specs.Seven.{seven_decimals};
 ghost use Rattle.encoding_names.specs.Held.{Held, HeldWhite, HeldPrimaries, HeldTransfer, PutsPart};
 ghost use Rattle.encoding_names.specs.Names.{chromaticities, comma, semicolon, pair, white_name, primaries_name, transfer_name};
@@ -23,28 +22,17 @@ fn put_pair(out: &mut [u8], at: usize, x: f32, separator: u8, y: f32) -> usize
     put_seven_decimals(&mut *out, j, y)
 }
 
-// The letters of a white point that has a name.
-fn white_letters(white: JxlWhitePoint) -> [u8; 3]
-    requires { white_point_number white < 3 }
-    ensures { result ≡ white_name white }
-{
-    match white {
-        JxlWhitePoint::D65 => [b'D', b'6', b'5'],
-        JxlWhitePoint::E => [b'E', b'E', b'R'],
-        JxlWhitePoint::DCI => [b'D', b'C', b'I'],
-        JxlWhitePoint::Chromaticity { wx: _, wy: _ } => [0, 0, 0],
-    }
-}
-
+#[tactic(auto, unfolding(crate::specs::Names::white_name))]
 pub fn put_white(out: &mut [u8], at: usize, white: JxlWhitePoint) -> usize
     requires { at + 97 ≤ length out.old }
     ensures { PutsPart 97 (HeldWhite white) out.old at (white_name white) result out.new }
 {
-    if let JxlWhitePoint::Chromaticity { wx, wy } = white {
-        return put_pair(out, at, wx, b';', wy);
+    match white {
+        JxlWhitePoint::D65 => put_bytes(out, at, b"D65"),
+        JxlWhitePoint::E => put_bytes(out, at, b"EER"),
+        JxlWhitePoint::DCI => put_bytes(out, at, b"DCI"),
+        JxlWhitePoint::Chromaticity { wx, wy } => put_pair(out, at, wx, b';', wy),
     }
-    let name = white_letters(white);
-    put_bytes(out, at, &name)
 }
 
 // A semicolon, and the coordinates of a further primary.
@@ -65,44 +53,21 @@ fn put_chromaticities(out: &mut [u8], at: usize, xy: PrimariesXy) -> usize
     put_next_pair(&mut *out, green, xy.bx, xy.by)
 }
 
-// The letters of primaries that have a name.
-fn primaries_letters(primaries: JxlPrimaries) -> [u8; 3]
-    requires { primaries_number primaries < 3 }
-    ensures { result ≡ primaries_name primaries }
-{
-    match primaries {
-        JxlPrimaries::SRGB => [b'S', b'R', b'G'],
-        JxlPrimaries::BT2100 => [b'2', b'0', b'2'],
-        JxlPrimaries::P3 => [b'D', b'C', b'I'],
-        JxlPrimaries::Chromaticities {
-            rx: _,
-            ry: _,
-            gx: _,
-            gy: _,
-            bx: _,
-            by: _,
-        } => [0, 0, 0],
-    }
-}
-
+#[tactic(auto, unfolding(crate::specs::Names::primaries_name))]
 pub fn put_primaries(out: &mut [u8], at: usize, primaries: JxlPrimaries) -> usize
     requires { at + 293 ≤ length out.old }
     ensures { PutsPart 293 (HeldPrimaries primaries) out.old at (primaries_name primaries) result out.new }
 {
-    if let JxlPrimaries::Chromaticities {
-        rx: _,
-        ry: _,
-        gx: _,
-        gy: _,
-        bx: _,
-        by: _,
-    } = primaries
-    {
-        let xy = primaries.to_xy_coords();
-        return put_chromaticities(out, at, xy);
+    match primaries {
+        JxlPrimaries::SRGB => put_bytes(out, at, b"SRG"),
+        JxlPrimaries::BT2100 => put_bytes(out, at, b"202"),
+        JxlPrimaries::P3 => put_bytes(out, at, b"DCI"),
+        JxlPrimaries::Chromaticities { .. } => put_chromaticities(
+            out,
+            at,
+            primaries.to_xy_coords(),
+        ),
     }
-    let name = primaries_letters(primaries);
-    put_bytes(out, at, &name)
 }
 
 fn put_gamma(out: &mut [u8], at: usize, g: f32) -> usize
@@ -113,29 +78,18 @@ fn put_gamma(out: &mut [u8], at: usize, g: f32) -> usize
     put_seven_decimals(&mut *out, i, g)
 }
 
-// The letters of a transfer function that has a name.
-fn transfer_letters(transfer: JxlTransferFunction) -> [u8; 3]
-    requires { transfer_function_number transfer < 6 }
-    ensures { result ≡ transfer_name transfer }
-{
-    match transfer {
-        JxlTransferFunction::BT709 => [b'7', b'0', b'9'],
-        JxlTransferFunction::Linear => [b'L', b'i', b'n'],
-        JxlTransferFunction::SRGB => [b'S', b'R', b'G'],
-        JxlTransferFunction::PQ => [b'P', b'e', b'Q'],
-        JxlTransferFunction::DCI => [b'D', b'C', b'I'],
-        JxlTransferFunction::HLG => [b'H', b'L', b'G'],
-        JxlTransferFunction::Gamma(_) => [0, 0, 0],
-    }
-}
-
+#[tactic(auto, unfolding(crate::specs::Names::transfer_name))]
 pub fn put_transfer(out: &mut [u8], at: usize, transfer: JxlTransferFunction) -> usize
     requires { at + 49 ≤ length out.old }
     ensures { PutsPart 49 (HeldTransfer transfer) out.old at (transfer_name transfer) result out.new }
 {
-    if let JxlTransferFunction::Gamma(g) = transfer {
-        return put_gamma(out, at, g);
+    match transfer {
+        JxlTransferFunction::BT709 => put_bytes(out, at, b"709"),
+        JxlTransferFunction::Linear => put_bytes(out, at, b"Lin"),
+        JxlTransferFunction::SRGB => put_bytes(out, at, b"SRG"),
+        JxlTransferFunction::PQ => put_bytes(out, at, b"PeQ"),
+        JxlTransferFunction::DCI => put_bytes(out, at, b"DCI"),
+        JxlTransferFunction::HLG => put_bytes(out, at, b"HLG"),
+        JxlTransferFunction::Gamma(g) => put_gamma(out, at, g),
     }
-    let name = transfer_letters(transfer);
-    put_bytes(out, at, &name)
 }

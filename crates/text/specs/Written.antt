@@ -1,12 +1,12 @@
 -- What the functions that write a description ensure.
 -- Assumes nothing.
-use Rattle.std.specs.Prelude.{◌≡◌, List, ◌++◌, ℕ, ◌+◌, ◌-◌, ◌≤◌, length}
+use Rattle.std.specs.Prelude.{◌≡◌, List, ◌++◌, ℕ, ◌-◌, ◌≤◌, length}
 use Rattle.buffer.specs.Bytes.{zeros}
 use Rattle.buffer.specs.Puts.{PutsText}
 use Rattle.color_encoding.specs.declared.JxlColorEncoding.{JxlColorEncoding}
 use Rattle.text.specs.Description.{description, max_bytes, max_bytes_in_range}
 use Rattle.text.specs.Held.{WhiteInRange}
-use Rattle.text.specs.declared.Text.{Text}
+use Rattle.buffer.specs.declared.Text.{Text}
 
 -- a text that is as short as every description, and as one whose white is in range where what is asked holds
 pub record Short (Asked : Type 0) (text : List ℕ) : Type 0 where
@@ -19,7 +19,7 @@ pub record PutsDescription (Asked : Type 0) (text l : List ℕ) (r : ℕ) (out :
   pub short : Short Asked text
 
 -- the description by value, zeros after it
-pub record Describes (e : JxlColorEncoding) (text : Text) : Type 0 where
+pub record Describes (e : JxlColorEncoding) (text : Text max_bytes) : Type 0 where
   pub len : text.len ≡ length (description e)
   pub bytes : text.bytes ≡ description e ++ zeros (max_bytes - length (description e))
   pub short : Short (WhiteInRange e) (description e)

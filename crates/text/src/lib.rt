@@ -11,7 +11,7 @@ ghost use Rattle.text.specs.Held.{InRange, WhiteInRange};
 ghost use Rattle.text.specs.Description.{underscore, rgb_text, gray_text, xyb_text, rgb_description, description, max_bytes};
 ghost use Rattle.text.specs.Written.{PutsDescription, Describes};
 
-use buffer::{put_byte, put_bytes};
+use buffer::{Text, put_byte, put_bytes};
 use color_encoding::{
     JxlColorEncoding, JxlPrimaries, JxlTransferFunction, JxlWhitePoint, RenderingIntent,
 };
@@ -20,13 +20,6 @@ use encoding_names::{put_primaries, put_transfer, put_white};
 
 // The most bytes of a description.
 pub const MAX_BYTES: usize = 449;
-
-// A description: the first `len` bytes; zeros after it.
-#[derive(Clone, Copy)]
-pub struct Text {
-    pub bytes: [u8; MAX_BYTES],
-    pub len: usize,
-}
 
 fn put_intent(out: &mut [u8], at: usize, intent: RenderingIntent) -> usize
     requires { at + 3 ≤ length out.old }
@@ -112,16 +105,14 @@ fn put_rgb(
     requires { max_bytes ≤ length out.old }
     ensures { PutsDescription (InRange white) (rgb_description white primaries transfer intent) out.old result out.new }
 {
-    let name = common_name(white, primaries, transfer, intent);
-    let len = name.len;
-    if len == 0 {
-        return put_rgb_text(out, white, primaries, transfer, intent);
+    match common_name(white, primaries, transfer, intent) {
+        Some(name) => put_bytes(out, 0, name.as_bytes()),
+        None => put_rgb_text(out, white, primaries, transfer, intent),
     }
-    let letters = name.letters;
-    put_bytes(out, 0, &letters[..len])
 }
 
 // The description of an encoding, put to the front of a slice that has room for any; answers its length.
+#[tactic(auto, unfolding(crate::specs::Description::description))]
 pub fn put_description(out: &mut [u8], encoding: JxlColorEncoding) -> usize
     requires { max_bytes ≤ length out.old }
     ensures { PutsDescription (WhiteInRange encoding) (description encoding) out.old result out.new }
@@ -148,7 +139,7 @@ pub fn put_description(out: &mut [u8], encoding: JxlColorEncoding) -> usize
     }
 }
 
-pub fn get_color_encoding_description(encoding: JxlColorEncoding) -> Text
+pub fn get_color_encoding_description(encoding: JxlColorEncoding) -> Text<MAX_BYTES>
     ensures { Describes encoding result }
 {
     let mut bytes = [0u8; MAX_BYTES];
