@@ -29,6 +29,10 @@ module _ {A : Type 0} {w : ℕ} {bytes : A → List ℕ} {all : List A → List 
   pub ended : (xs : List A) {l o : List ℕ} {at i k : ℕ} → i ≡ length xs → Puts l at (w * i) (all (take i xs)) k o → Puts l at (w * length xs) (all xs) k o
   ended xs h p = rw (h, take_all (length xs) xs (omega arith)) at p
 
+-- a value more has room, where all have
+pub room : (w : ℕ) {i n : ℕ} → i < n → w * i + w ≤ w * n
+room w {i} {n} h = grind arith
+
 -- ---- the three of them
 
 pub fixed : Encoding 4 (λ z. be32 (twos_complement32 z)) s15_fixed_16s

@@ -3,8 +3,8 @@
 
 #![tactic(auto)]
 
-ghost use Rattle.std.specs.Prelude.{◌∷◌, [], ◌+◌, ◌*◌, ◌≤◌, length};
-ghost use Rattle.words.specs.Words.{be32, twos_complement32};
+ghost use Rattle.std.specs.Prelude.{ℕ, List, ◌∷◌, [], ◌+◌, ◌*◌, ◌≤◌, length};
+ghost use Rattle.words.specs.Words.{be16, be32, twos_complement32};
 ghost use Rattle.buffer.specs.Ascii.{ascii};
 ghost use Rattle.buffer.specs.Bytes.{zeros};
 ghost use Rattle.buffer.specs.Puts.{Puts};
@@ -14,10 +14,11 @@ ghost use Rattle.profile.specs.Plan.{max_letters};
 ghost use Rattle.profile.specs.Shape.{mluc_size, curve_size, cicp_size, is_gamma, cicp_slot, has_cicp};
 ghost use Rattle.profile.specs.Signatures as Sig;
 ghost use Rattle.profile.specs.TagTypes as TagTypes;
+ghost use Rattle.elements.specs.EncodingLaws.{Encoding, fixed, words, letters};
 
 use element_values::{cicp_bytes, curve_parameters};
 pub use element_values::{mluc_size, padding};
-use profile::{Cicp, Curve, MLUC_TEXT};
+use profile::{Curve, MLUC_TEXT};
 
 // The PCS white point, as fixed numbers.
 pub const D50: [i32; 3] = [63190, 65536, 54061];
@@ -30,43 +31,74 @@ pub fn write_icc_tag(out: &mut [u8], at: usize, signature: [u8; 4]) -> usize
     buffer::put_bytes(out, at, &signature)
 }
 
-fn put_s15_fixed_16(out: &mut [u8], at: usize, value: i32) -> usize
-    requires { at + 4 ≤ length out.old }
-    ensures { Puts out.old at 4 (be32 (twos_complement32 value)) result out.new }
-{
-    words::put_u32_be(out, at, numbers::i32_to_bits(value))
+// A value that is put as so many bytes, the same number for each.
+pub trait Put: Copy {
+    ghost width: { ℕ };
+
+    ghost bytes: { Self → List ℕ };
+
+    // values one after another
+    ghost all: { List Self → List ℕ };
+
+    fn put(self, out: &mut [u8], at: usize) -> usize
+        requires { at + width ≤ length out.old }
+        ensures { Puts out.old at width (bytes self) result out.new };
+
+    ghost one_by_one: { Encoding width bytes all };
 }
 
-pub fn put_s15_fixed_16s(out: &mut [u8], at: usize, values: &[i32]) -> usize
-    requires { at + 4 * length values.now ≤ length out.old }
-    ensures { Puts out.old at (4 * length values.now) (TagTypes.s15_fixed_16s values.now) result out.new }
-{
-    let mut next = at;
-    let mut i = 0;
-    while i < values.len() {
-        next = put_s15_fixed_16(out, next, values[i]);
-        i += 1;
+// An s15Fixed16Number.
+impl Put for i32 {
+    ghost width = { 4 };
+
+    ghost bytes = { λ z. be32 (twos_complement32 z) };
+
+    ghost all = { TagTypes.s15_fixed_16s };
+
+    ghost one_by_one = { fixed };
+
+    fn put(self, out: &mut [u8], at: usize) -> usize {
+        words::put_u32_be(out, at, numbers::i32_to_bits(self))
     }
-    next
 }
 
-fn put_letter(out: &mut [u8], at: usize, letter: u8) -> usize
-    requires { at + 2 ≤ length out.old }
-    ensures { Puts out.old at 2 (0 ∷ letter ∷ []) result out.new }
-{
-    let at = buffer::put_byte(out, at, 0);
-    buffer::put_byte(out, at, letter)
+impl Put for u16 {
+    ghost width = { 2 };
+
+    ghost bytes = { be16 };
+
+    ghost all = { TagTypes.uint16s };
+
+    ghost one_by_one = { words };
+
+    fn put(self, out: &mut [u8], at: usize) -> usize {
+        words::put_u16_be(out, at, self)
+    }
 }
 
-fn put_utf16(out: &mut [u8], at: usize, text: &[u8]) -> usize
-    requires { at + 2 * length text.now ≤ length out.old }
-    ensures { Puts out.old at (2 * length text.now) (TagTypes.utf16 text.now) result out.new }
+// A letter of a text, in UTF-16BE.
+impl Put for u8 {
+    ghost width = { 2 };
+
+    ghost bytes = { λ c. 0 ∷ c ∷ [] };
+
+    ghost all = { TagTypes.utf16 };
+
+    ghost one_by_one = { letters };
+
+    fn put(self, out: &mut [u8], at: usize) -> usize {
+        buffer::put_bytes(out, at, &[0, self])
+    }
+}
+
+// Values one after another.
+pub fn put_each<T: Put>(out: &mut [u8], at: usize, values: &[T]) -> usize
+    requires { at + T.width * length values.now ≤ length out.old }
+    ensures { Puts out.old at (T.width * length values.now) (T.all values.now) result out.new }
 {
     let mut next = at;
-    let mut i = 0;
-    while i < text.len() {
-        next = put_letter(out, next, text[i]);
-        i += 1;
+    for value in values {
+        next = value.put(out, next);
     }
     next
 }
@@ -86,7 +118,7 @@ pub fn create_icc_mluc_tag(out: &mut [u8], at: usize, text: &[u8]) -> usize
     ensures { Puts out.old at (Elements.padded_size (mluc_size (length text.now))) (Elements.padded (TagTypes.mluc text.now)) result out.new }
 {
     let at = put_mluc_record(out, at, (2 * text.len()) as u32);
-    let at = put_utf16(out, at, text);
+    let at = put_each(out, at, text);
     buffer::put_zeros(out, at, padding(mluc_size(text.len())))
 }
 
@@ -96,7 +128,7 @@ fn put_numbers(out: &mut [u8], at: usize, start: &[u8; 8], values: &[i32]) -> us
     ensures { Puts out.old at (8 + 4 * length values.now) (TagTypes.join (start.now ∷ TagTypes.s15_fixed_16s values.now ∷ [])) result out.new }
 {
     let at = buffer::put_bytes(out, at, start);
-    put_s15_fixed_16s(out, at, values)
+    put_each(out, at, values)
 }
 
 pub fn create_icc_xyz_tag(out: &mut [u8], at: usize, values: &[i32]) -> usize
@@ -120,7 +152,7 @@ pub fn create_icc_curv_para_tag(out: &mut [u8], at: usize, params: &[i32], curve
     let at = buffer::put_bytes(out, at, b"para\0\0\0\0");
     let at = words::put_u16_be(out, at, curve_type);
     let at = buffer::put_zeros(out, at, 2);
-    put_s15_fixed_16s(out, at, params)
+    put_each(out, at, params)
 }
 
 pub fn put_curve(out: &mut [u8], at: usize, curve: Curve) -> usize
@@ -128,14 +160,8 @@ pub fn put_curve(out: &mut [u8], at: usize, curve: Curve) -> usize
     ensures { Puts out.old at (curve_size (is_gamma curve)) (Elements.padded (TagTypes.curve curve)) result out.new }
 {
     match curve {
-        Curve::Named(name) => {
-            let params = curve_parameters(name);
-            create_icc_curv_para_tag(out, at, &params, 3)
-        }
-        Curve::Gamma(g) => {
-            let params = [g];
-            create_icc_curv_para_tag(out, at, &params, 0)
-        }
+        Curve::Named(name) => create_icc_curv_para_tag(out, at, &curve_parameters(name), 3),
+        Curve::Gamma(g) => create_icc_curv_para_tag(out, at, &[g], 0),
     }
 }
 
@@ -143,16 +169,15 @@ fn put_cicp(out: &mut [u8], at: usize, primaries: u8, curve: Curve) -> usize
     requires { at + cicp_size ≤ length out.old }
     ensures { Puts out.old at cicp_size (TagTypes.cicp primaries curve) result out.new }
 {
-    let bytes = cicp_bytes(primaries, curve);
-    buffer::put_bytes(out, at, &bytes)
+    buffer::put_bytes(out, at, &cicp_bytes(primaries, curve))
 }
 
-pub fn create_icc_cicp_tag_data(out: &mut [u8], at: usize, cicp: Cicp, curve: Curve) -> usize
+pub fn create_icc_cicp_tag_data(out: &mut [u8], at: usize, cicp: Option<u8>, curve: Curve) -> usize
     requires { at + Elements.body_size (cicp_slot (has_cicp cicp)) ≤ length out.old }
     ensures { Puts out.old at (Elements.body_size (cicp_slot (has_cicp cicp))) (Elements.body (cicp_element curve cicp)) result out.new }
 {
     match cicp {
-        Cicp::Absent => at,
-        Cicp::Primaries(primaries) => put_cicp(out, at, primaries, curve),
+        None => at,
+        Some(primaries) => put_cicp(out, at, primaries, curve),
     }
 }

@@ -12,14 +12,14 @@ use Rattle.elements.proofs.create_icc_cicp_tag_data.Goals as goal
 pub put_cicp-requires : goal.put_cicp-requires
 unfolding body_size padding
 put_cicp-requires c =
-    let present : body_size (cicp_slot (has_cicp c.args.cicp)) ≡ 12 = ap (λ x. body_size (cicp_slot (has_cicp x))) c.in-Primaries.is in
+    let present : body_size (cicp_slot (has_cicp c.args.cicp)) ≡ 12 = ap (λ x. body_size (cicp_slot (has_cicp x))) c.in-Some.is in
     omega arith
 
-pub returns-in-Absent : goal.returns-in-Absent
+pub returns-in-None : goal.returns-in-None
 unfolding body_size body
-returns-in-Absent c = rw c.in-Absent.is (none _ _)
+returns-in-None c = rw c.in-None.is (none _ _)
 
-pub returns-in-Primaries : goal.returns-in-Primaries
+pub returns-in-Some : goal.returns-in-Some
 unfolding body_size padding body
-returns-in-Primaries c =
-    rw (c.in-Primaries.is, append-nil) (whole c.put_cicp.ensures refl)
+returns-in-Some c =
+    rw (c.in-Some.is, append-nil) (whole c.put_cicp.ensures refl)

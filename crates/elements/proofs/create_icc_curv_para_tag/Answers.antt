@@ -14,5 +14,5 @@ returns c =
     (next c.put_bytes-at.ensures
     (next c.put_u16_be-at.ensures
     (next c.put_zeros-at.ensures
-    (next c.put_s15_fixed_16s.ensures
+    (next c.put_each.ensures
     done)))) (omega arith) refl (length-para c.args.curve_type c.args.params.now)

@@ -13,6 +13,6 @@ returns c =
     let text = c.args.text.now in
     run _ _
     (next c.put_mluc_record-at.ensures
-    (next c.put_utf16-at.ensures
+    (next c.put_each-at.ensures
     (next c.put_zeros.ensures
     done))) (omega arith) (mluc_parts text _ (c.padding.ensures ∙ ap padding c.mluc_size.ensures)) (length-padded_mluc text)

@@ -14,5 +14,5 @@ returns c =
     let eight : length c.args.start.now ≡ 8 = omega arith in
     run _ _
     (next c.put_bytes-at.ensures
-    (next c.put_s15_fixed_16s.ensures
+    (next c.put_each.ensures
     done)) (omega arith) refl (simp (length-append, length-s15_fixed_16s, eight) (omega arith))
