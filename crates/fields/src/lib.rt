@@ -25,10 +25,8 @@ fn is_of(file: &[u8], class: [u8; 4], space: [u8; 4]) -> bool
     requires { header_size + count_size ≤ length file.now }
     ensures { result ≡ (same (take 4 (drop 12 file.now)) class && same (take 4 (drop 16 file.now)) space) }
 {
-    plan_checks::both(
-        buffer::same_bytes(&file[CLASS..CLASS + 4], &class),
-        buffer::same_bytes(&file[SPACE..SPACE + 4], &space),
-    )
+    buffer::same_bytes(&file[CLASS..CLASS + 4], &class)
+        && buffer::same_bytes(&file[SPACE..SPACE + 4], &space)
 }
 
 // The kind that class and space tell. A pair that is not listed is held against RGB's header, and refused.
@@ -73,11 +71,7 @@ pub fn red_line(cicp: bool) -> usize
 fn letters_for(size: u32) -> usize
     ensures { result ≡ PlanIn.letters_for size }
 {
-    let size = size as usize;
-    if size < MLUC_TEXT {
-        return 0;
-    }
-    (size - MLUC_TEXT) / 2
+    (size as usize).saturating_sub(MLUC_TEXT) / 2
 }
 
 // A shape by the sizes of the elements of text and curve.

@@ -2,19 +2,13 @@
 
 #![tactic(auto)]
 
-ghost use Rattle.std.specs.Prelude.{◌≡◌, true, ◌&&◌};
+ghost use Rattle.std.specs.Prelude.{◌≡◌, true};
 ghost use Rattle.profile.specs.Shape.{GoodShape};
 ghost use Rattle.reader_spec.specs.Decide as Decide;
 ghost use Rattle.reader_spec.specs.Tests as Tests;
 
 use numbers::LARGEST;
-use profile::{Cicp, Curve, MAX_LETTERS, Numbers, Shape};
-
-pub fn both(a: bool, b: bool) -> bool
-    ensures { result ≡ (a && b) }
-{
-    if a { b } else { false }
-}
+use profile::{Content, Curve, GrayWhite, MAX_LETTERS, Numbers, Shape};
 
 // Whether plans have this intent.
 pub fn intent_is_good(intent: u32) -> bool
@@ -33,7 +27,7 @@ pub fn shape_is_good(shape: Shape) -> bool
     if MAX_LETTERS < shape.letters {
         return false;
     }
-    !both(shape.cicp, shape.gamma)
+    !(shape.cicp && shape.gamma)
 }
 
 // ---- the range of the numbers
@@ -42,20 +36,13 @@ pub fn shape_is_good(shape: Shape) -> bool
 fn in_range(z: i32) -> bool
     ensures { result ≡ Tests.in_range z }
 {
-    -LARGEST <= z && z <= LARGEST
+    z.unsigned_abs() <= LARGEST.unsigned_abs()
 }
 
 fn all_in_range(numbers: &[i32]) -> bool
     ensures { result ≡ Tests.all_in_range numbers.now }
 {
-    let mut i = 0usize;
-    while i < numbers.len() {
-        if !in_range(numbers[i]) {
-            return false;
-        }
-        i += 1;
-    }
-    true
+    numbers.iter().all(|z| in_range(*z))
 }
 
 fn curve_in_range(curve: Curve) -> bool
@@ -67,48 +54,49 @@ fn curve_in_range(curve: Curve) -> bool
     }
 }
 
-// Whether every number of a plan lies within its range. Those that its kind does not have are zero.
+fn white_in_range(white: GrayWhite) -> bool
+    ensures { result ≡ Tests.white_in_range white }
+{
+    match white {
+        GrayWhite::Unadapted { x, z } => in_range(x) && in_range(z),
+        GrayWhite::Adapted(chad) => all_in_range(&chad),
+    }
+}
+
+// Whether every number of a plan lies within its range.
+#[tactic(auto, unfolding(reader_spec::specs::Tests::numbers_in_range))]
 pub fn numbers_in_range(plan: Numbers) -> bool
     ensures { result ≡ Tests.numbers_in_range plan }
 {
-    let curve = plan.curve;
-    let chad = plan.chad;
-    let columns = plan.columns;
-    let matrices = both(all_in_range(&chad), all_in_range(&columns));
-    let white = both(
-        in_range(plan.white_x),
-        both(in_range(plan.white_z), matrices),
-    );
-    both(curve_in_range(curve), white)
+    match plan.content {
+        Content::Gray { curve, white } => curve_in_range(curve) && white_in_range(white),
+        Content::Rgb {
+            curve,
+            chad,
+            columns,
+            ..
+        } => curve_in_range(curve) && all_in_range(&chad) && all_in_range(&columns),
+        Content::Xyb => true,
+    }
 }
 
 // ---- the letters and the `cicp` value
 
-// Whether a primaries value of `cicp` is one that a plan has.
-fn cicp_good(cicp: Cicp) -> bool
+// Whether a primaries value of `cicp`, if there is one, is one that a plan has.
+fn cicp_good(cicp: Option<u8>) -> bool
     ensures { result ≡ Tests.cicp_good cicp }
 {
-    match cicp {
-        Cicp::Absent => true,
-        Cicp::Primaries(v) => {
-            if v == 1 {
-                return true;
-            }
-            if v == 9 {
-                return true;
-            }
-            if v == 11 {
-                return true;
-            }
-            v == 12
-        }
-    }
+    matches!(cicp, None | Some(1 | 9 | 11 | 12))
 }
 
 // Whether the letters and the `cicp` value are those of a plan.
+#[tactic(auto, unfolding(reader_spec::specs::Tests::letters_and_cicp_good))]
 pub fn letters_and_cicp_good(plan: Numbers, text: &[u8]) -> bool
     ensures { result ≡ Tests.letters_and_cicp_good plan text.now }
 {
-    let cicp = plan.cicp;
-    both(buffer::is_ascii(text), cicp_good(cicp))
+    buffer::is_ascii(text)
+        && match plan.content {
+            Content::Rgb { cicp, .. } => cicp_good(cicp),
+            _ => true,
+        }
 }
