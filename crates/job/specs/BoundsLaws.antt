@@ -13,6 +13,8 @@ use Rattle.job_entry.specs.Entry.{byte_at, float_at, white_at, primaries_at, cur
 use Rattle.job.specs.Counts.{told_of}
 use Rattle.job.specs.Bounds.{EntryAnswerBounds, greatest_refusal}
 use Rattle.job.specs.declared.Section.{Section}
+use Rattle.job.specs.declared.Section.TheVariants.{Gray, Rgb, Xyb}
+use Rattle.job.specs.Job.{number}
 use Rattle.job.specs.declared.JobEntry.{JobEntry}
 
 -- a value that a check gave, or the number of its refusal
@@ -95,6 +97,12 @@ module _ (b : List ℕ) where
   pub held_xyb : Given HeldEncoding (xyb_encoding b)
   unfolding xyb_encoding
   held_xyb = given_then (λ (i : RenderingIntent). Unit {0}) HeldEncoding (intent_at b 0) _ (any_intent (byte_at b 0)) (λ i hi. tt)
+
+-- the number of a section has one digit
+pub section_number : (s : Section) → number s ≤ 3
+section_number Gray = lit≤ tt
+section_number Rgb = lit≤ tt
+section_number Xyb = lit≤ tt
 
 -- an entry at a place of a section
 pub bounds_told : (s : Section) (k : ℕ) (c : Checked JxlColorEncoding) → k ≤ 255 → Given HeldEncoding c → EntryAnswerBounds (told_of s k c)
