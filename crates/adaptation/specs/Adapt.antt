@@ -1,6 +1,7 @@
 -- The chromatic adaptation of a white point to D50 by the Bradford matrices: `adapt_to_xyz_d50` of api/color.rs, and its narrowing, the
 -- `chad_matrix` of `maybe_create_profile`. Assumes nothing.
-use Rattle.std.specs.Prelude.{ℕ, Bool, ◌&&◌, ◌||◌, not, cond, List, [], ◌∷◌, Float}
+use Rattle.std.specs.Prelude.{ℕ, Bool, ◌&&◌, not, cond, List, [], ◌∷◌, Float}
+use Rattle.std.specs.List.{list_any, list_all}
 use Rattle.std.specs.Float.{binary64}
 use Rattle.std.specs.Float.Ieee.{of_bits, eq}
 use Rattle.buffer.specs.Checked.{Checked, is, refused, then}
@@ -10,8 +11,6 @@ use Rattle.icc_matrix.specs.Narrowed.{narrowed}
 use Rattle.color_encoding.specs.declared.WhiteXy.{WhiteXy}
 use Rattle.color_encoding.specs.Range.{in_range}
 use Rattle.white_point.specs.White.{white_xyz, finite, finite_xyz}
-use Rattle.adaptation.specs.declared.Adaptation.{Adaptation}
-use Rattle.adaptation.specs.declared.Adaptation.TheVariants.{Adapted, InvalidWhitePoint}
 
 abbrev b64 : ℕ → Float
 b64 n = of_bits binary64 n
@@ -48,10 +47,10 @@ diagonal v =
 
 -- Rust's `contains(&0.0)`: -0 is equal to 0
 unfoldable pub has_zero : List Float → Bool
-has_zero v = eq (component v 0) zero || eq (component v 1) zero || eq (component v 2) zero
+has_zero v = list_any (λ x. eq x zero) v
 
 unfoldable pub all_finite : List Float → Bool
-all_finite v = finite (component v 0) && finite (component v 1) && finite (component v 2)
+all_finite v = list_all finite v
 
 -- the cone responses L, M and S of an XYZ
 unfoldable pub lms : List Float → List Float
@@ -75,11 +74,6 @@ invalid_white_point = refused 4
 
 unfoldable pub adapt_to_xyz_d50 : WhiteXy → Checked (List (List Float))
 adapt_to_xyz_d50 w = cond (adaptable w) (is (adaptation_matrix (gains w))) invalid_white_point
-
--- the value of an answer, which stands in the output, or its number on the refusal list of 01
-abbrev pub checked_adaptation : Adaptation → List (List Float) → Checked (List (List Float))
-checked_adaptation Adapted out = is out
-checked_adaptation InvalidWhitePoint out = invalid_white_point
 
 -- ---- the matrix of the element `chad`
 

@@ -3,17 +3,16 @@
 
 #![tactic(auto)]
 
-ghost use Rattle.std.specs.Prelude.{◌≡◌, ◌&&◌, not, ◌<◌};
+ghost use Rattle.std.specs.Prelude.{◌≡◌};
 ghost use Rattle.floats.specs.Binary64.{◌⊘◌};
-ghost use Rattle.buffer.specs.Outputs.{Outputs};
+ghost use Rattle.refusals.specs.Refusals.{checked};
 ghost use Rattle.linalg.specs.Linalg.{three, component};
-ghost use Rattle.color_encoding.specs.Range.{in_range};
-ghost use Rattle.white_point.specs.White.{finite_xyz};
-ghost use Rattle.adaptation.specs.Adapt.{d50, diagonal, has_zero, all_finite, lms, adaptation_matrix, adapt_to_xyz_d50, checked_adaptation, chad_matrix};
+ghost use Rattle.adaptation.specs.Adapt.{d50, diagonal, has_zero, all_finite, lms, adaptation_matrix, adapt_to_xyz_d50, chad_matrix};
 
 use color_encoding::WhiteXy;
 use linalg::{Matrix3x3, Vector3};
-use white_point::{finite_xyz, in_range, is_finite, white_xyz};
+use refusals::Refusal;
+use white_point::{finite_xyz, in_range, white_xyz};
 
 // Bradford matrices for chromatic adaptation.
 const K_BRADFORD: Matrix3x3 = [
@@ -28,17 +27,11 @@ const K_BRADFORD_INV: Matrix3x3 = [
     [-0.0085287, 0.0400428, 0.9684867],
 ];
 
-// The answer of an adaptation; the matrix stands in the caller's output.
-#[derive(Clone, Copy)]
-pub enum Adaptation {
-    Adapted,
-    InvalidWhitePoint,
-}
-
+#[tactic(auto, unfolding(crate::specs::Adapt::has_zero))]
 fn has_zero(v: Vector3) -> bool
     ensures { result ≡ has_zero v }
 {
-    v[0] == 0.0 || v[1] == 0.0 || v[2] == 0.0
+    v.contains(&0.0)
 }
 
 pub fn diagonal(v: Vector3) -> Matrix3x3
@@ -48,6 +41,7 @@ pub fn diagonal(v: Vector3) -> Matrix3x3
 }
 
 // The cone responses of an XYZ.
+#[tactic(auto, unfolding(crate::specs::Adapt::lms))]
 fn lms(xyz: Vector3) -> Vector3
     ensures { result ≡ lms xyz }
 {
@@ -55,6 +49,7 @@ fn lms(xyz: Vector3) -> Vector3
 }
 
 // To cone responses, each by its gain, and back.
+#[tactic(auto, unfolding(crate::specs::Adapt::adaptation_matrix))]
 fn adaptation_matrix(gains: Vector3) -> Matrix3x3
     ensures { result ≡ adaptation_matrix gains }
 {
@@ -62,66 +57,45 @@ fn adaptation_matrix(gains: Vector3) -> Matrix3x3
     linalg::mul_3x3_matrix(K_BRADFORD_INV, b_matrix)
 }
 
-// What a cone response is multiplied by: that of D50 divided by that of the white.
-fn gain(d50: Vector3, source: Vector3, i: usize) -> f64
-    requires { i < 3 }
-    ensures { result ≡ component d50 i ⊘ component source i }
-{
-    d50[i] / source[i]
-}
-
+// What each cone response is multiplied by: that of D50 divided by that of the white.
 fn gains(source: Vector3) -> Vector3
     ensures { result ≡ three (λ i. component (lms d50) i ⊘ component source i) }
 {
     let w50 = [0.96422, 1.0, 0.82521];
     let lms_d50 = lms(w50);
     [
-        gain(lms_d50, source, 0),
-        gain(lms_d50, source, 1),
-        gain(lms_d50, source, 2),
+        lms_d50[0] / source[0],
+        lms_d50[1] / source[1],
+        lms_d50[2] / source[2],
     ]
 }
 
+#[tactic(auto, unfolding(crate::specs::Adapt::all_finite))]
 fn all_finite(v: Vector3) -> bool
     ensures { result ≡ all_finite v }
 {
-    is_finite(v[0]) && (is_finite(v[1]) && is_finite(v[2]))
+    v.iter().all(|x| x.is_finite())
 }
 
-// Whether a white can be adapted, by its XYZ, its cone responses and its gains.
-fn is_adaptable(white: WhiteXy, w: Vector3, source: Vector3, gains: Vector3) -> bool
-    ensures { result ≡ (in_range white && finite_xyz w && not (has_zero source) && all_finite gains) }
-{
-    in_range(white) && (finite_xyz(w) && (!has_zero(source) && all_finite(gains)))
-}
-
-// The matrix that adapts XYZ from a white to D50, in `out`; `out` is unchanged where the white is refused.
-pub fn adapt_to_xyz_d50(white: WhiteXy, out: &mut Matrix3x3) -> Adaptation
-    ensures { Outputs (adapt_to_xyz_d50 white) (checked_adaptation result out.new) out.old out.new }
+// The matrix that adapts XYZ from a white to D50.
+#[tactic(auto, unfolding(crate::specs::Adapt::adapt_to_xyz_d50, crate::specs::Adapt::adaptable, crate::specs::Adapt::gains))]
+pub fn adapt_to_xyz_d50(white: WhiteXy) -> Result<Matrix3x3, Refusal>
+    ensures { checked result ≡ adapt_to_xyz_d50 white }
 {
     let w = white_xyz(white);
     let lms_source = lms(w);
     let gains = gains(lms_source);
-    if is_adaptable(white, w, lms_source, gains) {
-        let matrix = adaptation_matrix(gains);
-        *out = matrix;
-        Adaptation::Adapted
+    if in_range(white) && finite_xyz(w) && !has_zero(lms_source) && all_finite(gains) {
+        Ok(adaptation_matrix(gains))
     } else {
-        Adaptation::InvalidWhitePoint
+        Err(Refusal::InvalidWhitePoint)
     }
 }
 
-// The adaptation to D50, each entry rounded once to f32, in `out`; `out` is unchanged where the white is refused.
-pub fn chad_matrix(white: WhiteXy, out: &mut [[f32; 3]; 3]) -> Adaptation
-    ensures { Outputs (chad_matrix white) (checked_adaptation result out.new) out.old out.new }
+// The adaptation to D50, each entry rounded once to f32.
+#[tactic(auto, unfolding(crate::specs::Adapt::chad_matrix))]
+pub fn chad_matrix(white: WhiteXy) -> Result<[[f32; 3]; 3], Refusal>
+    ensures { checked result ≡ chad_matrix white }
 {
-    let mut matrix = [[0.0f64; 3]; 3];
-    match adapt_to_xyz_d50(white, &mut matrix) {
-        Adaptation::InvalidWhitePoint => Adaptation::InvalidWhitePoint,
-        Adaptation::Adapted => {
-            let result = icc_matrix::narrowed(matrix);
-            *out = result;
-            Adaptation::Adapted
-        }
-    }
+    adapt_to_xyz_d50(white).map(icc_matrix::narrowed)
 }

@@ -11,8 +11,6 @@ use Rattle.color_encoding.specs.Range.{in_range}
 use Rattle.white_point.specs.White.{white_xyz, finite_xyz}
 use Rattle.icc_matrix.specs.Narrowed.{narrowed}
 use Rattle.adaptation.specs.Adapt.{diagonal, invalid_white_point, adapt_to_xyz_d50}
-use Rattle.colorimetry.specs.declared.Conversion.{Conversion}
-use Rattle.colorimetry.specs.declared.Conversion.TheVariants.{Converted, InvalidWhitePoint, MatrixInversionFailed}
 
 -- the columns are x, y and z = 1 - x - y of red, green and blue
 unfoldable pub primaries_matrix : PrimariesXy → List (List Float)
@@ -44,9 +42,3 @@ primaries_to_xyz_d50 p w = then (primaries_to_xyz p w) (λ m. then (adapt_to_xyz
 -- each entry rounded once to f32
 unfoldable pub create_icc_rgb_matrix : PrimariesXy → WhiteXy → Checked (List (List Float))
 create_icc_rgb_matrix p w = then (primaries_to_xyz_d50 p w) (λ m. is (narrowed m))
-
--- the value of an answer, which stands in the output, or its number on the refusal list of 01
-abbrev pub checked_conversion : Conversion → List (List Float) → Checked (List (List Float))
-checked_conversion Converted out = is out
-checked_conversion InvalidWhitePoint out = invalid_white_point
-checked_conversion MatrixInversionFailed out = matrix_inversion_failed

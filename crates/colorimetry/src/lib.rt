@@ -4,26 +4,17 @@
 #![tactic(auto)]
 
 ghost use Rattle.std.specs.Prelude.{◌≡◌};
-ghost use Rattle.buffer.specs.Checked.{is, then};
-ghost use Rattle.buffer.specs.Outputs.{Outputs};
-ghost use Rattle.linalg.specs.Linalg.{product};
-ghost use Rattle.adaptation.specs.Adapt.{adapt_to_xyz_d50};
-ghost use Rattle.colorimetry.specs.Primaries.{primaries_matrix, scaled_primaries, primaries_to_xyz, primaries_to_xyz_d50, create_icc_rgb_matrix, checked_conversion};
+ghost use Rattle.refusals.specs.Refusals.{checked};
+ghost use Rattle.colorimetry.specs.Primaries.{primaries_matrix, scaled_primaries, primaries_to_xyz, primaries_to_xyz_d50, create_icc_rgb_matrix};
 
-use adaptation::{Adaptation, adapt_to_xyz_d50, diagonal};
+use adaptation::{adapt_to_xyz_d50, diagonal};
 use color_encoding::{PrimariesXy, WhiteXy};
 use linalg::{Matrix3x3, Vector3};
+use refusals::Refusal;
 use white_point::{finite_xyz, in_range, white_xyz};
 
-// The answer of a conversion; the matrix stands in the caller's output.
-#[derive(Clone, Copy)]
-pub enum Conversion {
-    Converted,
-    InvalidWhitePoint,
-    MatrixInversionFailed,
-}
-
 // The matrix whose columns are x, y and z = 1 - x - y of the primaries.
+#[tactic(auto, unfolding(crate::specs::Primaries::primaries_matrix))]
 fn primaries_matrix(primaries: PrimariesXy) -> Matrix3x3
     ensures { result ≡ primaries_matrix primaries }
 {
@@ -40,6 +31,7 @@ fn primaries_matrix(primaries: PrimariesXy) -> Matrix3x3
 }
 
 // The primaries, each scaled so that they add up to the white.
+#[tactic(auto, unfolding(crate::specs::Primaries::scaled_primaries))]
 fn scaled_primaries(p: Matrix3x3, w: Vector3) -> Matrix3x3
     ensures { result ≡ scaled_primaries p w }
 {
@@ -48,73 +40,42 @@ fn scaled_primaries(p: Matrix3x3, w: Vector3) -> Matrix3x3
     linalg::mul_3x3_matrix(p, diagonal(s_vec))
 }
 
-// The matrix from RGB to XYZ relative to the white, in `out`; `out` is unchanged where the white or the primaries are refused.
-pub fn primaries_to_xyz(primaries: PrimariesXy, white: WhiteXy, out: &mut Matrix3x3) -> Conversion
-    ensures { Outputs (primaries_to_xyz primaries white) (checked_conversion result out.new) out.old out.new }
+// The matrix from RGB to XYZ relative to the white.
+#[tactic(auto, unfolding(crate::specs::Primaries::primaries_to_xyz))]
+pub fn primaries_to_xyz(primaries: PrimariesXy, white: WhiteXy) -> Result<Matrix3x3, Refusal>
+    ensures { checked result ≡ primaries_to_xyz primaries white }
 {
     let p_matrix = primaries_matrix(primaries);
     let w = white_xyz(white);
     if !in_range(white) {
-        return Conversion::InvalidWhitePoint;
+        return Err(Refusal::InvalidWhitePoint);
     }
     if matrix_inverse::is_singular(p_matrix) {
-        return Conversion::MatrixInversionFailed;
+        return Err(Refusal::MatrixInversionFailed);
     }
     if !finite_xyz(w) {
-        return Conversion::InvalidWhitePoint;
+        return Err(Refusal::InvalidWhitePoint);
     }
-    let result_matrix = scaled_primaries(p_matrix, w);
-    *out = result_matrix;
-    Conversion::Converted
+    Ok(scaled_primaries(p_matrix, w))
 }
 
-// A matrix from RGB to XYZ relative to the white, adapted to D50, in `out`; `out` is unchanged where the white is refused.
-fn adapted(white: WhiteXy, m: Matrix3x3, out: &mut Matrix3x3) -> Conversion
-    ensures { Outputs (then (adapt_to_xyz_d50 white) (λ a. is (product a m))) (checked_conversion result out.new) out.old out.new }
+// The matrix from RGB to XYZ relative to D50.
+#[tactic(auto, unfolding(crate::specs::Primaries::primaries_to_xyz_d50))]
+pub fn primaries_to_xyz_d50(primaries: PrimariesXy, white: WhiteXy) -> Result<Matrix3x3, Refusal>
+    ensures { checked result ≡ primaries_to_xyz_d50 primaries white }
 {
-    let mut adaptation_to_d50 = [[0.0f64; 3]; 3];
-    match adapt_to_xyz_d50(white, &mut adaptation_to_d50) {
-        Adaptation::InvalidWhitePoint => Conversion::InvalidWhitePoint,
-        Adaptation::Adapted => {
-            let result_matrix = linalg::mul_3x3_matrix(adaptation_to_d50, m);
-            *out = result_matrix;
-            Conversion::Converted
-        }
-    }
+    let rgb_to_xyz = primaries_to_xyz(primaries, white)?;
+    let adaptation_to_d50 = adapt_to_xyz_d50(white)?;
+    Ok(linalg::mul_3x3_matrix(adaptation_to_d50, rgb_to_xyz))
 }
 
-// The matrix from RGB to XYZ relative to D50, in `out`; `out` is unchanged where the white or the primaries are refused.
-pub fn primaries_to_xyz_d50(
-    primaries: PrimariesXy,
-    white: WhiteXy,
-    out: &mut Matrix3x3,
-) -> Conversion
-    ensures { Outputs (primaries_to_xyz_d50 primaries white) (checked_conversion result out.new) out.old out.new }
-{
-    let mut rgb_to_xyz = [[0.0f64; 3]; 3];
-    match primaries_to_xyz(primaries, white, &mut rgb_to_xyz) {
-        Conversion::InvalidWhitePoint => Conversion::InvalidWhitePoint,
-        Conversion::MatrixInversionFailed => Conversion::MatrixInversionFailed,
-        Conversion::Converted => adapted(white, rgb_to_xyz, out),
-    }
-}
-
-// The matrix from RGB to XYZ relative to D50, each entry rounded once to f32, in `out`; `out` is unchanged on a refusal.
+// The matrix from RGB to XYZ relative to D50, each entry rounded once to f32.
+#[tactic(auto, unfolding(crate::specs::Primaries::create_icc_rgb_matrix))]
 pub fn create_icc_rgb_matrix(
     primaries: PrimariesXy,
     white: WhiteXy,
-    out: &mut [[f32; 3]; 3],
-) -> Conversion
-    ensures { Outputs (create_icc_rgb_matrix primaries white) (checked_conversion result out.new) out.old out.new }
+) -> Result<[[f32; 3]; 3], Refusal>
+    ensures { checked result ≡ create_icc_rgb_matrix primaries white }
 {
-    let mut result_f64 = [[0.0f64; 3]; 3];
-    match primaries_to_xyz_d50(primaries, white, &mut result_f64) {
-        Conversion::InvalidWhitePoint => Conversion::InvalidWhitePoint,
-        Conversion::MatrixInversionFailed => Conversion::MatrixInversionFailed,
-        Conversion::Converted => {
-            let result = icc_matrix::narrowed(result_f64);
-            *out = result;
-            Conversion::Converted
-        }
-    }
+    primaries_to_xyz_d50(primaries, white).map(icc_matrix::narrowed)
 }
