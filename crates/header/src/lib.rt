@@ -14,7 +14,7 @@ ghost use Rattle.profile.specs.Elements.{header_size};
 ghost use Rattle.profile.specs.Layout as Layout;
 ghost use Rattle.profile.specs.Layout.{intent_at, id_at, id_size};
 
-use elements::{D50, put_s15_fixed_16s, write_icc_tag};
+use elements::{D50, put_each, write_icc_tag};
 use profile::Kind;
 
 // Where maker, model, intent and id stand.
@@ -27,28 +27,13 @@ pub const INTENT: usize = 64;
 pub const ID: usize = 84;
 
 // The class of a profile and its data color space.
-#[derive(Clone, Copy)]
-struct Signatures {
-    class: [u8; 4],
-    space: [u8; 4],
-}
-
-fn signatures_of(kind: Kind) -> Signatures
-    ensures { (result.class ≡ Layout.class kind) × (result.space ≡ Layout.space kind) }
+fn signatures_of(kind: Kind) -> ([u8; 4], [u8; 4])
+    ensures { result ≡ (Layout.class kind, Layout.space kind) }
 {
     match kind {
-        Kind::Gray => Signatures {
-            class: *b"mntr",
-            space: *b"GRAY",
-        },
-        Kind::Rgb => Signatures {
-            class: *b"mntr",
-            space: *b"RGB ",
-        },
-        Kind::Xyb => Signatures {
-            class: *b"scnr",
-            space: *b"RGB ",
-        },
+        Kind::Gray => (*b"mntr", *b"GRAY"),
+        Kind::Rgb => (*b"mntr", *b"RGB "),
+        Kind::Xyb => (*b"scnr", *b"RGB "),
     }
 }
 
@@ -60,11 +45,8 @@ fn put_class_and_space(out: &mut [u8], at: usize, kind: Kind) -> usize
     requires { at + 20 ≤ length out.old }
     ensures { Puts out.old at 20 (join (Sig.jxl ∷ (4 ∷ 64 ∷ 0 ∷ 0 ∷ []) ∷ Layout.class kind ∷ Layout.space kind ∷ Sig.XYZ ∷ [])) result out.new }
 {
-    let first = CMM_AND_VERSION;
-    let told = signatures_of(kind);
-    let class = told.class;
-    let space = told.space;
-    let at = buffer::put_bytes(out, at, &first);
+    let (class, space) = signatures_of(kind);
+    let at = buffer::put_bytes(out, at, &CMM_AND_VERSION);
     let at = write_icc_tag(out, at, class);
     let at = write_icc_tag(out, at, space);
     write_icc_tag(out, at, *b"XYZ ")
@@ -77,8 +59,7 @@ fn put_date_and_platform(out: &mut [u8], at: usize) -> usize
     requires { at + 20 ≤ length out.old }
     ensures { Puts out.old at 20 (join (be16 2019 ∷ be16 12 ∷ be16 1 ∷ zeros 6 ∷ Sig.acsp ∷ Sig.APPL ∷ [])) result out.new }
 {
-    let bytes = DATE_AND_PLATFORM;
-    buffer::put_bytes(out, at, &bytes)
+    buffer::put_bytes(out, at, &DATE_AND_PLATFORM)
 }
 
 // Flags, all zero; device manufacturer and model; attributes, all zero.
@@ -97,9 +78,8 @@ fn put_last_fields(out: &mut [u8], at: usize) -> usize
     requires { at + 64 ≤ length out.old }
     ensures { Puts out.old at 64 (join (be32 0 ∷ s15_fixed_16s Layout.D50 ∷ Sig.jxl ∷ zeros 16 ∷ zeros 28 ∷ [])) result out.new }
 {
-    let white = D50;
     let at = words::put_u32_be(out, at, 0);
-    let at = put_s15_fixed_16s(out, at, &white);
+    let at = put_each(out, at, &D50);
     let at = write_icc_tag(out, at, *b"jxl ");
     buffer::put_zeros(out, at, 44)
 }

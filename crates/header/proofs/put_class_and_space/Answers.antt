@@ -14,4 +14,4 @@ returns c =
     (next c.write_icc_tag-at.ensures
     (next c.write_icc_tag-at-2.ensures
     (next c.write_icc_tag.ensures
-    done)))) (omega (arith, c.requires)) (rw (c.signatures_of-told.ensures.0, c.signatures_of-told.ensures.1)) (length-class_and_space c.args.kind)
+    done)))) (omega (arith, c.requires)) (rw c.signatures_of.ensures) (length-class_and_space c.args.kind)

@@ -12,7 +12,7 @@ unfolding join
 returns c =
     run _ _
     (next c.put_u32_be-at.ensures
-    (next c.put_s15_fixed_16s-at.ensures
+    (next c.put_each-at.ensures
     (next c.write_icc_tag-at.ensures
     (next c.put_zeros.ensures
     done)))) (omega (arith, c.requires)) refl length-last_fields

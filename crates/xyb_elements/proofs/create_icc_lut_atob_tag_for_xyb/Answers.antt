@@ -19,5 +19,5 @@ returns c =
     (next c.put_identity_curves-at.ensures
     (next c.put_clut-at.ensures
     (next c.put_m_curves-at.ensures
-    (next c.put_s15_fixed_16s.ensures
-    done))))) (omega (arith, c.requires)) (rw c.matrix-matrix.ensures) length-a2b0) refl
+    (next c.put_each.ensures
+    done))))) (omega (arith, c.requires)) (rw c.matrix.ensures) length-a2b0) refl

@@ -12,5 +12,5 @@ unfolding Xyb.clut join
 returns c =
     run _ _
     (next c.put_bytes-at.ensures
-    (next c.put_u16s.ensures
-    done)) (omega (arith, c.requires)) (rw c.clut-values.ensures) length-clut
+    (next c.put_each.ensures
+    done)) (omega (arith, c.requires)) (rw c.clut.ensures) length-clut
