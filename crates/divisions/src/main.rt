@@ -7,23 +7,15 @@
 
 #![tactic(auto)]
 
-ghost use Rattle.std.specs.Prelude.{◌≤◌};
-
 use buffer::{byte_at, same_bytes};
 use scanner::letters_at;
 use std::env::{Env, FillError};
 use std::fs::Files;
 use std::io;
-use std::num::{wrapping_add_u64, wrapping_add_usize, wrapping_sub_usize};
 
 // A part of a slice; one that is not there is empty.
 fn part(s: &[u8], start: usize, end: usize) -> &[u8] {
-    if start <= end {
-        if end <= s.len() {
-            return &s[start..end];
-        }
-    }
-    &s[0..0]
+    s.get(start..end).unwrap_or(&[])
 }
 
 // ---- tokens
@@ -37,38 +29,15 @@ const CLOSE: [u8; 3] = *b"\xe2\x8c\x9d";
 
 const LAMBDA: [u8; 2] = *b"\xce\xbb";
 
-fn is_digit(b: u8) -> bool {
-    match b {
-        b'0'..=b'9' => true,
-        _ => false,
-    }
-}
-
 fn is_letter(b: u8) -> bool {
-    match b {
-        b'a'..=b'z' | b'A'..=b'Z' | b'_' => true,
-        _ => false,
-    }
-}
-
-// What takes several bytes; `stops` says where it ends. A statement is one of a single line, a segment a part of a path. A contract stands within corner
-// brackets, a bare one within the braces of its clause alone.
-#[derive(Clone, Copy)]
-enum Run {
-    Line,
-    Statement,
-    Segment,
-    Word,
-    Text,
-    Contract,
-    Bare,
+    b.is_ascii_alphabetic() || b == b'_'
 }
 
 // Whether a string stops here: at its end, or where it could go on in more than one way.
 fn text_stops(s: &[u8], at: usize) -> bool {
     match byte_at(s, at) {
-        b'"' => byte_at(s, wrapping_sub_usize(at, 1)) != b'\\',
-        b'\\' => byte_at(s, wrapping_add_usize(at, 1)) == b'\\',
+        b'"' => byte_at(s, at.wrapping_sub(1)) != b'\\',
+        b'\\' => byte_at(s, at.wrapping_add(1)) == b'\\',
         b'\n' | 128.. => true,
         _ => false,
     }
@@ -78,7 +47,7 @@ fn text_stops(s: &[u8], at: usize) -> bool {
 fn contract_stops(s: &[u8], at: usize) -> bool {
     match byte_at(s, at) {
         b'{' | b'}' | b'"' => true,
-        b'-' => byte_at(s, wrapping_add_usize(at, 1)) == b'-',
+        b'-' => byte_at(s, at.wrapping_add(1)) == b'-',
         0xe2 => letters_at(s, at, &CLOSE) || letters_at(s, at, &OPEN),
         _ => false,
     }
@@ -89,35 +58,31 @@ fn bare_stops(s: &[u8], at: usize) -> bool {
     contract_stops(s, at) || letters_at(s, at, b"//")
 }
 
-fn stops(run: Run, s: &[u8], at: usize) -> bool {
-    let b = byte_at(s, at);
-    match run {
-        Run::Line => b == b'\n',
-        Run::Statement => b == b';' || b == b'\n',
-        Run::Segment => b == b':',
-        Run::Word => !(is_letter(b) || is_digit(b)),
-        Run::Text => text_stops(s, at),
-        Run::Contract => contract_stops(s, at),
-        Run::Bare => bare_stops(s, at),
-    }
+// The first place from `from` on where what takes several bytes stops; where it doesn't, the end of the source.
+fn run_end<F: Fn(usize) -> bool>(s: &[u8], from: usize, stops: F) -> usize
+    requires { F.IsAlwaysCallable stops }
+{
+    (from..s.len()).find(|at| stops(*at)).unwrap_or(s.len())
 }
 
-fn run_end(run: Run, s: &[u8], from: usize) -> usize {
-    let mut i = from;
-    while i < s.len() {
-        if stops(run, s, i) {
-            return i;
-        }
-        i += 1;
-    }
-    s.len()
+// The same of what takes a single byte to stop.
+fn byte_from<F: Fn(u8) -> bool>(s: &[u8], from: usize, stops: F) -> usize
+    requires { F.IsAlwaysCallable stops }
+{
+    run_end(s, from, |at| stops(byte_at(s, at)))
+}
+
+fn line_end(s: &[u8], from: usize) -> usize {
+    byte_from(s, from, |b| b == b'\n')
 }
 
 // The end of a run with its last letters, or its start if these do not end it.
-fn closed_end(run: Run, s: &[u8], start: usize, last: &[u8]) -> usize {
-    let end = run_end(run, s, wrapping_add_usize(start, last.len()));
+fn closed_end<F: Fn(usize) -> bool>(s: &[u8], start: usize, last: &[u8], stops: F) -> usize
+    requires { F.IsAlwaysCallable stops }
+{
+    let end = run_end(s, start.wrapping_add(last.len()), stops);
     if letters_at(s, end, last) {
-        wrapping_add_usize(end, last.len())
+        end.wrapping_add(last.len())
     } else {
         start
     }
@@ -127,188 +92,165 @@ fn closed_end(run: Run, s: &[u8], start: usize, last: &[u8]) -> usize {
 fn blank_end(s: &[u8], at: usize) -> usize {
     let b = byte_at(s, at);
     if b == b' ' || b == b'\n' {
-        return wrapping_add_usize(at, 1);
+        return at.wrapping_add(1);
     }
     if letters_at(s, at, b"//") {
-        return run_end(Run::Line, s, at);
+        return line_end(s, at);
     }
     at
 }
 
 // The place after a name or a number. No string begins here but one of bytes: a raw string ends in another way.
 fn word_end(s: &[u8], at: usize) -> usize {
-    let end = run_end(Run::Word, s, at);
+    let end = byte_from(s, at, |b| !(is_letter(b) || b.is_ascii_digit()));
     match byte_at(s, end) {
-        b'"' | b'\'' | b'#' => {
-            if same_bytes(part(s, at, end), b"b") {
-                end
-            } else {
-                at
-            }
-        }
+        b'"' | b'\'' | b'#' if !same_bytes(part(s, at, end), b"b") => at,
         _ => end,
     }
 }
 
 // The place after a character, or after the ' of a lifetime. An escape of another form than \n and \x41 is refused.
 fn quote_end(s: &[u8], at: usize) -> usize {
-    let escaped = byte_at(s, wrapping_add_usize(at, 1)) == b'\\';
+    let escaped = byte_at(s, at.wrapping_add(1)) == b'\\';
     let last = if !escaped {
-        wrapping_add_usize(at, 2)
-    } else if byte_at(s, wrapping_add_usize(at, 2)) == b'x' {
-        wrapping_add_usize(at, 5)
+        at.wrapping_add(2)
+    } else if byte_at(s, at.wrapping_add(2)) == b'x' {
+        at.wrapping_add(5)
     } else {
-        wrapping_add_usize(at, 3)
+        at.wrapping_add(3)
     };
     if byte_at(s, last) == b'\'' {
-        wrapping_add_usize(last, 1)
+        last.wrapping_add(1)
     } else if escaped {
         at
     } else {
-        wrapping_add_usize(at, 1)
+        at.wrapping_add(1)
     }
 }
 
 // How many of two bytes are one operator or bracket, or λ. Of the operators of two letters only those that the search asks for are one.
 fn mark_length(first: u8, second: u8) -> usize {
-    match first {
-        b'/' => match second {
-            b'*' => 0,
-            b'=' => 2,
-            _ => 1,
-        },
-        b'%' => if second == b'=' { 2 } else { 1 },
-        b':' | b'.' => if second == first { 2 } else { 1 },
-        0xce => if second == 0xbb { 2 } else { 0 },
-        33..=126 => 1,
+    match (first, second) {
+        (b'/', b'*') => 0,
+        (b'/' | b'%', b'=') | (b':', b':') | (b'.', b'.') | (0xce, 0xbb) => 2,
+        (33..=126, _) => 1,
         _ => 0,
     }
 }
 
-// The place of a token. It is empty at the end of the source and where none can be read.
+// A token of a source. It is empty at the end of the source and where none can be read.
 #[derive(Clone, Copy)]
-struct Token {
+struct Token<'a> {
+    source: &'a [u8],
     start: usize,
     end: usize,
 }
 
-fn token_at(s: &[u8], start: usize) -> Token {
-    let b = byte_at(s, start);
-    let end = if is_letter(b) || is_digit(b) {
-        word_end(s, start)
-    } else if b == b'"' {
-        closed_end(Run::Text, s, start, b"\"")
-    } else if b == b'\'' {
-        quote_end(s, start)
-    } else if letters_at(s, start, &OPEN) {
-        closed_end(Run::Contract, s, start, &CLOSE)
-    } else {
-        wrapping_add_usize(
-            start,
-            mark_length(b, byte_at(s, wrapping_add_usize(start, 1))),
-        )
-    };
-    Token { start, end }
-}
-
-// The first token from a place on.
-fn token_from(s: &[u8], from: usize) -> Token {
-    let mut at = from;
-    while at < s.len() {
-        let next = blank_end(s, at);
-        if next <= at {
-            break;
-        }
-        at = next;
+impl<'a> Token<'a> {
+    fn at(source: &'a [u8], start: usize) -> Token<'a> {
+        let b = byte_at(source, start);
+        let end = if is_letter(b) || b.is_ascii_digit() {
+            word_end(source, start)
+        } else if b == b'"' {
+            closed_end(source, start, b"\"", |at| text_stops(source, at))
+        } else if b == b'\'' {
+            quote_end(source, start)
+        } else if letters_at(source, start, &OPEN) {
+            closed_end(source, start, &CLOSE, |at| contract_stops(source, at))
+        } else {
+            start.wrapping_add(mark_length(b, byte_at(source, start.wrapping_add(1))))
+        };
+        Token { source, start, end }
     }
-    token_at(s, at)
-}
 
-fn is(s: &[u8], t: Token, text: &[u8]) -> bool {
-    same_bytes(part(s, t.start, t.end), text)
-}
+    // The first token from a place on.
+    fn from(source: &'a [u8], from: usize) -> Token<'a> {
+        let mut at = from;
+        while at < source.len() {
+            let next = blank_end(source, at);
+            if next <= at {
+                break;
+            }
+            at = next;
+        }
+        Token::at(source, at)
+    }
 
-fn is_name(s: &[u8], t: Token) -> bool {
-    t.start < t.end && is_letter(byte_at(s, t.start))
+    fn next(self) -> Token<'a> {
+        Token::from(self.source, self.end)
+    }
+
+    // The text from its start to the end of another token.
+    fn through(self, last: Token<'a>) -> &'a [u8] {
+        part(self.source, self.start, last.end)
+    }
+
+    fn text(self) -> &'a [u8] {
+        self.through(self)
+    }
+
+    fn is(self, text: &[u8]) -> bool {
+        same_bytes(self.text(), text)
+    }
+
+    fn is_empty(self) -> bool {
+        self.end <= self.start
+    }
+
+    fn first_byte(self) -> u8 {
+        byte_at(self.source, self.start)
+    }
+
+    fn is_name(self) -> bool {
+        !self.is_empty() && is_letter(self.first_byte())
+    }
 }
 
 // ---- the right operand of a division
 
-// The base of a literal whose second letter is this. The `ensures` gives only what `value` needs to stay below 2^64.
-fn base(letter: u8) -> u64
-    ensures { result ≤ 16 }
-{
-    match letter {
-        b'x' => 16,
-        b'o' => 8,
-        b'b' => 2,
-        _ => 10,
-    }
-}
-
-// The value of a digit, and 16 for what is none.
-fn digit(b: u8) -> u64 {
-    match b {
-        b'0'..=b'9' => (b - b'0') as u64,
-        b'a'..=b'f' => (b - b'a') as u64 + 10,
-        b'A'..=b'F' => (b - b'A') as u64 + 10,
-        _ => 16,
-    }
-}
-
-// The number that an integer literal states up to the suffix of its type; 0 for another literal, or one of 2^64 and more.
-fn value(literal: &[u8]) -> u64 {
-    let base = base(byte_at(literal, 1));
+// The number that an integer literal states up to the suffix of its type. None for another literal, or one of 2^64 and more.
+fn value(literal: &[u8]) -> Option<u64> {
+    let (base, start) = match byte_at(literal, 1) {
+        b'x' => (16, 2),
+        b'o' => (8, 2),
+        b'b' => (2, 2),
+        _ => (10, 0),
+    };
     let mut n = 0u64;
-    let mut i = if base == 10 { 0usize } else { 2 };
-    while i < literal.len() {
-        let b = literal[i];
-        i += 1;
-        if b == b'u' || b == b'i' {
-            break;
-        }
-        if b != b'_' {
-            let d = digit(b);
-            if base <= d {
-                return 0;
-            }
-            // Behind 2^60 and more a digit may not fit.
-            if 0x1000_0000_0000_0000 <= n {
-                return 0;
-            }
-            n = n * base + d;
+    for b in part(literal, start, literal.len()) {
+        match *b {
+            b'u' | b'i' => break,
+            b'_' => {}
+            b => n = n
+                .checked_mul(base.into())?
+                .checked_add(char::from(b).to_digit(base)?.into())?,
         }
     }
-    n
-}
-
-fn is_power_of_two(n: u64) -> bool {
-    u64::count_ones(n) == 1
+    Some(n)
 }
 
 // Whether a literal is the whole right operand: what binds closer does not stand behind it, and behind the one of /= or %= the statement ends.
-fn is_whole(s: &[u8], operator: Token, behind: Token) -> bool {
-    match byte_at(s, behind.start) {
+fn is_whole(operator: Token, behind: Token) -> bool {
+    match behind.first_byte() {
         b';' => true,
         b'.' | b'(' | b'[' | b'?' => false,
-        _ => byte_at(s, wrapping_sub_usize(operator.end, 1)) != b'=' && !is(s, behind, b"as"),
+        _ => operator.text().last() != Some(&b'=') && !behind.is(b"as"),
     }
 }
 
-fn by_power_of_two(s: &[u8], operator: Token) -> bool {
-    let operand = token_from(s, operator.end);
-    let literal = part(s, operand.start, operand.end);
-    is_digit(byte_at(literal, 0))
-        && is_power_of_two(value(literal))
-        && is_whole(s, operator, token_from(s, operand.end))
+fn by_power_of_two(operator: Token) -> bool {
+    let operand = operator.next();
+    operand.first_byte().is_ascii_digit()
+        && value(operand.text()).is_some_and(|n| n.is_power_of_two())
+        && is_whole(operator, operand.next())
 }
 
 // ---- calls
 
 // Whether a source is the module's: NAME/src/lib that of the crate NAME, NAME/src/MODULE that of NAME::MODULE.
 fn is_of_module(source: &[u8], module: &[u8]) -> bool {
-    let n = run_end(Run::Segment, module, 0);
-    let file = wrapping_add_usize(n, 5);
+    let n = byte_from(module, 0, |b| b == b':');
+    let file = n.wrapping_add(5);
     if !same_bytes(part(source, 0, n), part(module, 0, n))
         || !same_bytes(part(source, n, file), b"/src/")
     {
@@ -318,7 +260,7 @@ fn is_of_module(source: &[u8], module: &[u8]) -> bool {
     if n == module.len() {
         return same_bytes(name, b"lib");
     }
-    same_bytes(name, part(module, wrapping_add_usize(n, 2), module.len()))
+    same_bytes(name, part(module, n.wrapping_add(2), module.len()))
 }
 
 // The most bytes that an argument is read of; a longer one names no source.
@@ -348,100 +290,94 @@ fn argument_is_of<R: Env>(rt: &R, i: usize, module: &[u8]) -> bool {
 
 // Whether the module's source is among the arguments.
 fn is_given<R: Env>(rt: &R, module: &[u8]) -> bool {
-    for i in 1..argument_count(rt) {
-        if argument_is_of(rt, i, module) {
-            return true;
-        }
-    }
-    false
+    (1..argument_count(rt)).any(|i| argument_is_of(rt, i, module))
 }
 
-// The name behind a `::`; without them, nothing.
-fn name_behind(s: &[u8], at: usize) -> Token {
-    let colons = token_from(s, at);
-    let name = token_from(s, colons.end);
-    if is(s, colons, b"::") && is_name(s, name) {
+// The name behind a `::`, which stands behind a token; without them, nothing.
+fn name_behind(t: Token) -> Token {
+    let colons = t.next();
+    let name = colons.next();
+    if colons.is(b"::") && name.is_name() {
         name
     } else {
-        Token { start: at, end: at }
+        Token { start: t.end, ..t }
     }
 }
 
 // Whether a path leads into the sources or to the one function beside them that is called on the way. A type needs no search of its own: that of
 // another module is named in a `use`, whose path is searched.
-fn is_known<R: Env>(rt: &R, s: &[u8], first: Token, second: Token, third: Token) -> bool {
-    match byte_at(s, first.start) {
-        b'A'..=b'Z' => return true,
-        _ => {}
-    }
-    if same_bytes(part(s, first.start, third.end), b"f32::to_bits") {
+fn is_known<R: Env>(rt: &R, first: Token, second: Token, third: Token) -> bool {
+    if first.first_byte().is_ascii_uppercase()
+        || same_bytes(first.through(third), b"f32::to_bits")
+    {
         return true;
     }
-    let module = if third.start < third.end {
-        second
-    } else {
-        first
-    };
-    second.start < second.end
-        && is_given(rt, part(s, first.start, module.end))
-        && !is(s, token_from(s, third.end), b"::")
+    let module = if third.is_empty() { first } else { second };
+    !second.is_empty() && is_given(rt, first.through(module)) && !third.next().is(b"::")
 }
 
 // Whether a token is the `.` before the call of a method other than `len`.
-fn is_method(s: &[u8], dot: Token) -> bool {
-    let name = token_from(s, dot.end);
-    is(s, dot, b".")
-        && is_name(s, name)
-        && !is(s, name, b"len")
-        && is(s, token_from(s, name.end), b"(")
+fn is_method(dot: Token) -> bool {
+    let name = dot.next();
+    dot.is(b".") && name.is_name() && !name.is(b"len") && name.next().is(b"(")
 }
 
 // ---- the search
 
-// What a token adds to the counts, and the place where the search goes on.
+// What a token is to the search.
+#[derive(Clone, Copy)]
+enum Kind {
+    Harmless,
+    ByPowerOfTwo,
+    Fault,
+}
+
+// That, and the place where the search goes on.
 #[derive(Clone, Copy)]
 struct Found {
-    by_powers: u64,
-    faults: u64,
+    kind: Kind,
     next: usize,
 }
 
-fn fault_if(fault: bool, next: usize) -> Found {
+fn harmless(next: usize) -> Found {
     Found {
-        by_powers: 0,
-        faults: fault as u64,
+        kind: Kind::Harmless,
         next,
     }
 }
 
-fn divided(s: &[u8], operator: Token) -> Found {
-    let by_power = by_power_of_two(s, operator);
+fn fault_if(fault: bool, next: usize) -> Found {
+    let kind = if fault { Kind::Fault } else { Kind::Harmless };
+    Found { kind, next }
+}
+
+fn divided(operator: Token) -> Found {
+    let kind = if by_power_of_two(operator) {
+        Kind::ByPowerOfTwo
+    } else {
+        Kind::Fault
+    };
     Found {
-        by_powers: by_power as u64,
-        faults: !by_power as u64,
+        kind,
         next: operator.end,
     }
 }
 
 // What cannot be read: the search goes on behind its line.
-fn unread(s: &[u8], t: Token) -> Found {
-    fault_if(true, run_end(Run::Line, s, t.start))
+fn unread(t: Token) -> Found {
+    fault_if(true, line_end(t.source, t.start))
 }
 
 // The token behind a name; where none stands, the token itself.
-fn past_name(s: &[u8], t: Token) -> Token {
-    if is_name(s, t) {
-        token_from(s, t.end)
-    } else {
-        t
-    }
+fn past_name(t: Token) -> Token {
+    if t.is_name() { t.next() } else { t }
 }
 
 // The token behind λ, a name and a point; where they do not stand, the token itself.
-fn past_lambda(s: &[u8], t: Token) -> Token {
-    let point = past_name(s, token_from(s, t.end));
-    if is(s, t, &LAMBDA) && is(s, point, b".") {
-        token_from(s, point.end)
+fn past_lambda(t: Token) -> Token {
+    let point = past_name(t.next());
+    if t.is(&LAMBDA) && point.is(b".") {
+        point.next()
     } else {
         t
     }
@@ -449,122 +385,103 @@ fn past_lambda(s: &[u8], t: Token) -> Token {
 
 // The } behind antt's text, which is within corner brackets, with λ, a name and a point before them or none, or, where no λ begins it, bare. Of another
 // text, another token.
-fn contract_close(s: &[u8], first: Token) -> Token {
-    let contract = past_lambda(s, first);
+fn contract_close(first: Token) -> Token {
+    let s = first.source;
+    let contract = past_lambda(first);
     if letters_at(s, contract.start, &OPEN) {
-        return token_from(s, contract.end);
+        return contract.next();
     }
-    if is(s, first, &LAMBDA) {
+    if first.is(&LAMBDA) {
         return first;
     }
-    token_at(s, run_end(Run::Bare, s, first.start))
+    Token::at(s, run_end(s, first.start, |at| bare_stops(s, at)))
 }
 
 // A clause is { ⌜ … ⌝ }, { λ r. ⌜ … ⌝ } or { … }, with a name before it or none. So all of antt's text stands within corner brackets, or within braces and
 // holds neither them nor a brace, a quote or what could begin a comment.
-fn clause(s: &[u8], word: Token) -> Found {
-    let open = past_name(s, token_from(s, word.end));
-    let close = contract_close(s, token_from(s, open.end));
-    if is(s, open, b"{") && is(s, close, b"}") {
-        fault_if(false, close.end)
+fn clause(word: Token) -> Found {
+    let open = past_name(word.next());
+    let close = contract_close(open.next());
+    if open.is(b"{") && close.is(b"}") {
+        harmless(close.end)
     } else {
-        unread(s, word)
+        unread(word)
     }
 }
 
 // A `ghost use` ends on its line.
-fn ghost_use(s: &[u8], word: Token) -> Found {
-    let end = run_end(Run::Statement, s, word.end);
-    if is(s, token_from(s, word.end), b"use") && byte_at(s, end) == b';' {
-        fault_if(false, end)
+fn ghost_use(word: Token) -> Found {
+    let end = byte_from(word.source, word.end, |b| b == b';' || b == b'\n');
+    if word.next().is(b"use") && byte_at(word.source, end) == b';' {
+        harmless(end)
     } else {
-        unread(s, word)
+        unread(word)
     }
 }
 
 // A `use` names a path: a crate alone could be given the name of another.
-fn used(s: &[u8], word: Token) -> Found {
-    let first = token_from(s, word.end);
-    fault_if(!is(s, token_from(s, first.end), b"::"), word.end)
+fn used(word: Token) -> Found {
+    fault_if(!word.next().next().is(b"::"), word.end)
 }
 
-fn path<R: Env>(rt: &R, s: &[u8], first: Token) -> Found {
-    if !is(s, token_from(s, first.end), b"::") {
-        return fault_if(false, first.end);
+fn path<R: Env>(rt: &R, first: Token) -> Found {
+    if !first.next().is(b"::") {
+        return harmless(first.end);
     }
-    let second = name_behind(s, first.end);
-    let third = name_behind(s, second.end);
-    fault_if(!is_known(rt, s, first, second, third), third.end)
+    let second = name_behind(first);
+    let third = name_behind(second);
+    fault_if(!is_known(rt, first, second, third), third.end)
 }
 
-fn named<R: Env>(rt: &R, s: &[u8], word: Token) -> Found {
-    if is(s, word, b"requires") || is(s, word, b"ensures") {
-        clause(s, word)
-    } else if is(s, word, b"ghost") {
-        ghost_use(s, word)
-    } else if is(s, word, b"use") {
-        used(s, word)
-    } else if is(s, word, b"extern") || is(s, word, b"asm") {
+fn named<R: Env>(rt: &R, word: Token) -> Found {
+    if word.is(b"requires") || word.is(b"ensures") {
+        clause(word)
+    } else if word.is(b"ghost") {
+        ghost_use(word)
+    } else if word.is(b"use") {
+        used(word)
+    } else if word.is(b"extern") || word.is(b"asm") {
         fault_if(true, word.end)
     } else {
-        path(rt, s, word)
+        path(rt, word)
     }
 }
 
-fn judged<R: Env>(rt: &R, s: &[u8], t: Token) -> Found {
-    if s.len() <= t.start {
-        return fault_if(false, s.len());
+fn judged<R: Env>(rt: &R, t: Token) -> Found {
+    if t.source.len() <= t.start {
+        return harmless(t.source.len());
     }
-    if t.end <= t.start {
-        return unread(s, t);
+    if t.is_empty() {
+        return unread(t);
     }
-    match byte_at(s, t.start) {
-        b'/' | b'%' => divided(s, t),
-        b'.' => fault_if(is_method(s, t), t.end),
+    match t.first_byte() {
+        b'/' | b'%' => divided(t),
+        b'.' => fault_if(is_method(t), t.end),
         // A contract or λ outside a clause.
-        128.. => unread(s, t),
-        _ => {
-            if is_name(s, t) {
-                named(rt, s, t)
-            } else {
-                fault_if(false, t.end)
-            }
-        }
+        128.. => unread(t),
+        _ if t.is_name() => named(rt, t),
+        _ => harmless(t.end),
     }
 }
 
 // ---- what is printed
 
-// The start of a line, and its number from 1.
-#[derive(Clone, Copy)]
-struct Line {
-    start: usize,
-    number: u64,
-}
-
-fn line_of(s: &[u8], at: usize) -> Line {
-    let mut line = Line {
-        start: 0,
-        number: 1,
-    };
-    for i in 0..at {
-        if byte_at(s, i) == b'\n' {
-            line = Line {
-                start: i + 1,
-                number: wrapping_add_u64(line.number, 1),
-            };
-        }
-    }
-    line
-}
-
 fn print_fault<R: Print>(rt: &R, name: &[u8], s: &[u8], at: usize) -> io::Result<()> {
-    let line = line_of(s, at);
+    let before = part(s, 0, at);
+    let line = before
+        .iter()
+        .filter(|b| **b == b'\n')
+        .count()
+        .wrapping_add(1);
+    let start = before
+        .iter()
+        .rposition(|b| *b == b'\n')
+        .map_or(0, |i| i.wrapping_add(1));
     rt.write_all(name)?;
     rt.write_all(b":")?;
-    rt.print(line.number)?;
+    rt.print(line)?;
     rt.write_all(b": ")?;
-    rt.write_all(part(s, line.start, run_end(Run::Line, s, at)))?;
+    rt.write_all(part(s, start, line_end(s, at)))?;
     rt.write_all(b"\n")
 }
 
@@ -578,12 +495,15 @@ fn search<R: Env + Print>(rt: &R, name: &[u8], s: &[u8]) -> io::Result<()> {
     let mut faults = 0u64;
     let mut at = 0usize;
     while at < s.len() {
-        let t = token_from(s, at);
-        let found = judged(rt, s, t);
-        by_powers = wrapping_add_u64(by_powers, found.by_powers);
-        faults = wrapping_add_u64(faults, found.faults);
-        if found.faults != 0 {
-            print_fault(rt, name, s, t.start)?;
+        let t = Token::from(s, at);
+        let found = judged(rt, t);
+        match found.kind {
+            Kind::Harmless => {}
+            Kind::ByPowerOfTwo => by_powers = by_powers.wrapping_add(1),
+            Kind::Fault => {
+                faults = faults.wrapping_add(1);
+                print_fault(rt, name, s, t.start)?;
+            }
         }
         // Never so, but the prover must see that the search ends; the missing counts would tell.
         if found.next <= at {

@@ -1,6 +1,6 @@
 -- The measure is what is left of the source.
 use Rattle.std.proofs.Common.{◌-◌, length}
-use Rattle.divisions.proofs.token_from.Given as goal
+use Rattle.divisions.proofs.Token.from.Given as goal
 
 abbrev pub decreases-loop-at : goal.decreases-loop-at
-decreases-loop-at l = length l.s - l.at
+decreases-loop-at l = length l.source - l.at
