@@ -1,26 +1,14 @@
 -- The fixed numbers of an encoding's white and primaries, or the refusal (01, the refusal list), and the floats that they are made from.
 -- Assumes nothing.
-use Rattle.std.specs.Prelude.{cond, List, [], eqb, ℤ, Float}
+use Rattle.std.specs.Prelude.{List, [], ℤ, Float}
 use Rattle.numbers.specs.Fixed.{fixed_or}
-use Rattle.numbers.specs.Rounded.{Counted}
 use Rattle.linalg.specs.Linalg.{component, rows, columns}
 use Rattle.color_encoding.specs.declared.WhiteXy.{WhiteXy}
 use Rattle.color_encoding.specs.declared.PrimariesXy.{PrimariesXy}
 use Rattle.white_point.specs.GrayWhite.{cie_xyz_from_white_cie_xy}
 use Rattle.adaptation.specs.Adapt.{chad_matrix}
 use Rattle.colorimetry.specs.Primaries.{create_icc_rgb_matrix}
-use Rattle.buffer.specs.Checked.{Checked, is, refused, value_or, then, each}
-use Rattle.encoding_numbers.specs.declared.GrayNumbers.{GrayNumbers}
-use Rattle.encoding_numbers.specs.declared.NineNumbers.{NineNumbers}
-
--- ---- what each answer of the code stands for; a refusal of 0 is none
-
--- X and Z
-abbrev pub checked_gray_numbers : GrayNumbers → Checked (Counted (ℤ × ℤ))
-checked_gray_numbers r = cond (eqb r.refusal 0) (is (record { value = (r.x, r.z); rounded = r.rounded })) (refused r.refusal)
-
-abbrev pub checked_nine_numbers : NineNumbers → Checked (Counted (List ℤ))
-checked_nine_numbers r = cond (eqb r.refusal 0) (is (record { value = r.values; rounded = r.rounded })) (refused r.refusal)
+use Rattle.buffer.specs.Checked.{Checked, is, value_or, then, each}
 
 -- ---- white and primaries
 
