@@ -2,20 +2,21 @@
 
 #![tactic(auto)]
 
-ghost use Rattle.std.specs.Prelude.{◌≡◌, ◌∷◌, [], ◌+◌, ◌*◌, ◌≤◌, length, take, drop};
+ghost use Rattle.std.specs.Prelude.{◌≡◌, ◌+◌, ◌*◌, ◌≤◌, length, take, drop};
 ghost use Rattle.buffer.specs.Buffer.{put};
-ghost use Rattle.buffer.specs.Puts.{PutsText};
-ghost use Rattle.profile.specs.Plan.{max_letters};
-ghost use Rattle.profile.specs.Numbers.{numbers_for, numbers_of, text_of};
+ghost use Rattle.buffer.specs.Texts.{IsText};
+ghost use Rattle.profile.specs.Numbers.{content_of, numbers_of, text_of};
 ghost use Rattle.reader_spec.specs.Table as Table;
 ghost use Rattle.reader_spec.specs.PlanIn as PlanIn;
 ghost use Rattle.reader_spec.specs.Steps.{Tabled};
 
+use buffer::Text;
 use fields::{DESC_LINE, gray_curve_line, red_line};
 use header::{MAKER, MODEL};
 use numbers::i32_from_bits;
 use profile::{
-    BT709_GAMMA, Cicp, Curve, CurveName, Kind, LINEAR_GAMMA, MLUC_TEXT, Numbers, SRGB_GAMMA, Shape,
+    BT709_GAMMA, Content, Curve, CurveName, GrayWhite, Kind, LINEAR_GAMMA, MAX_LETTERS, MLUC_TEXT,
+    Numbers, SRGB_GAMMA, Shape,
 };
 use table_lines::line_at;
 use words::read_u32_be;
@@ -38,8 +39,7 @@ const PRIMARIES: usize = 8;
 fn offset_at(file: &[u8], line: usize) -> u32
     ensures { result ≡ (Table.line_in file.now line).offset }
 {
-    let named = line_at(file, line);
-    named.offset
+    line_at(file, line).offset
 }
 
 fn number_at(file: &[u8], at: usize) -> i32
@@ -58,19 +58,16 @@ const BT709_FIRST: u32 = BT709_GAMMA as u32;
 const LINEAR_FIRST: u32 = LINEAR_GAMMA as u32;
 
 // A named curve by its first number.
+#[tactic(auto, unfolding(reader_spec::specs::PlanIn::name_by))]
 fn name_by(first: u32) -> CurveName
     ensures { result ≡ PlanIn.name_by first }
 {
-    if first == SRGB_FIRST {
-        return CurveName::SRGB;
+    match first {
+        SRGB_FIRST => CurveName::SRGB,
+        BT709_FIRST => CurveName::BT709,
+        LINEAR_FIRST => CurveName::Linear,
+        _ => CurveName::DCI,
     }
-    if first == BT709_FIRST {
-        return CurveName::BT709;
-    }
-    if first == LINEAR_FIRST {
-        return CurveName::Linear;
-    }
-    CurveName::DCI
 }
 
 // The curve of the element that a line names, a gamma or a named one.
@@ -84,47 +81,29 @@ fn curve_in(file: &[u8], line: usize, gamma: bool) -> Curve
     Curve::Named(name_by(read_u32_be(file, at)))
 }
 
-fn cicp_in(file: &[u8], cicp: bool) -> Cicp
+fn cicp_in(file: &[u8], cicp: bool) -> Option<u8>
     ensures { result ≡ PlanIn.cicp_in cicp (PlanIn.element_in file.now 4) }
 {
     if cicp {
         let at = offset_at(file, CICP_LINE) as usize + PRIMARIES;
-        return Cicp::Primaries(buffer::byte_at(file, at));
+        return Some(buffer::byte_at(file, at));
     }
-    Cicp::Absent
+    None
 }
 
 // ---- `chad`, columns and white
 
-// The nine numbers of `chad`.
-fn chad_in(file: &[u8]) -> [i32; 9]
-    ensures { result ≡ PlanIn.numbers_in 9 (PlanIn.element_in file.now 3) }
+// The N numbers of an `XYZ ` or `sf32` element.
+fn numbers_at<const N: usize>(file: &[u8], line: usize) -> [i32; N]
+    requires { N ≤ 9 }
+    ensures { result ≡ PlanIn.numbers_in N (PlanIn.element_in file.now line) }
 {
-    let at = offset_at(file, CHAD_LINE) as usize + NUMBERS;
-    let mut numbers = [0i32; 9];
-    for i in 0..9usize {
+    let at = offset_at(file, line) as usize + NUMBERS;
+    let mut numbers = [0i32; N];
+    for i in 0..N {
         numbers[i] = number_at(file, at + 4 * i);
     }
     numbers
-}
-
-// The three numbers of an `XYZ ` element.
-#[derive(Clone, Copy)]
-struct Xyz {
-    x: i32,
-    y: i32,
-    z: i32,
-}
-
-fn xyz_in(file: &[u8], line: usize) -> Xyz
-    ensures { result.x ∷ result.y ∷ result.z ∷ [] ≡ PlanIn.numbers_in 3 (PlanIn.element_in file.now line) }
-{
-    let at = offset_at(file, line) as usize + NUMBERS;
-    Xyz {
-        x: number_at(file, at),
-        y: number_at(file, at + 4),
-        z: number_at(file, at + 8),
-    }
 }
 
 // The numbers of the three columns, the lines of which follow one another.
@@ -132,47 +111,45 @@ fn columns_in(file: &[u8], red_line: usize) -> [i32; 9]
     requires { red_line ≤ 5 }
     ensures { result ≡ PlanIn.columns_in (PlanIn.element_in file.now) red_line }
 {
-    let red = xyz_in(file, red_line);
-    let green = xyz_in(file, red_line + 1);
-    let blue = xyz_in(file, red_line + 2);
+    let [red_x, red_y, red_z] = numbers_at::<3>(file, red_line);
+    let [green_x, green_y, green_z] = numbers_at::<3>(file, red_line + 1);
+    let [blue_x, blue_y, blue_z] = numbers_at::<3>(file, red_line + 2);
     [
-        red.x, red.y, red.z, green.x, green.y, green.z, blue.x, blue.y, blue.z,
+        red_x, red_y, red_z, green_x, green_y, green_z, blue_x, blue_y, blue_z,
     ]
+}
+
+// The white of a gray plan: X and Z of its own or, where it is adapted, `chad`.
+fn white_in(file: &[u8], adapted: bool) -> GrayWhite
+    ensures { result ≡ PlanIn.white_in adapted (PlanIn.element_in file.now) }
+{
+    if adapted {
+        return GrayWhite::Adapted(numbers_at(file, CHAD_LINE));
+    }
+    let [x, _, z] = numbers_at::<3>(file, WTPT_LINE);
+    GrayWhite::Unadapted { x, z }
 }
 
 // ---- the plan
 
-// The numbers of a gray plan: X and Z of its white or, where this is adapted, `chad`.
-fn gray_in(file: &[u8], shape: Shape, intent: u32) -> Numbers
-    ensures { result ≡ numbers_for intent (PlanIn.content_from Kind.Gray shape (PlanIn.element_in file.now)) }
+fn content_in(file: &[u8], shape: Shape) -> Content
+    ensures { result ≡ content_of (PlanIn.content_from shape.kind shape (PlanIn.element_in file.now)) }
 {
-    let curve = curve_in(file, gray_curve_line(shape.adapted), shape.gamma);
-    if shape.adapted {
-        return profile::gray_numbers(intent, curve, true, 0, 0, chad_in(file));
-    }
-    let white = xyz_in(file, WTPT_LINE);
-    profile::gray_numbers(intent, curve, false, white.x, white.z, [0; 9])
-}
-
-// The numbers of an RGB plan.
-fn rgb_in(file: &[u8], shape: Shape, intent: u32) -> Numbers
-    ensures { result ≡ numbers_for intent (PlanIn.content_from Kind.Rgb shape (PlanIn.element_in file.now)) }
-{
-    let red = red_line(shape.cicp);
-    let curve = curve_in(file, red + 3, shape.gamma);
-    let cicp = cicp_in(file, shape.cicp);
-    profile::rgb_numbers(intent, curve, cicp, chad_in(file), columns_in(file, red))
-}
-
-// The numbers of a plan of any kind, without maker and model.
-fn content_in(file: &[u8], shape: Shape, intent: u32) -> Numbers
-    ensures { result ≡ numbers_for intent (PlanIn.content_from shape.kind shape (PlanIn.element_in file.now)) }
-{
-    let kind = shape.kind;
-    match kind {
-        Kind::Gray => gray_in(file, shape, intent),
-        Kind::Rgb => rgb_in(file, shape, intent),
-        Kind::Xyb => profile::xyb_numbers(intent),
+    match shape.kind {
+        Kind::Gray => Content::Gray {
+            curve: curve_in(file, gray_curve_line(shape.adapted), shape.gamma),
+            white: white_in(file, shape.adapted),
+        },
+        Kind::Rgb => {
+            let red = red_line(shape.cicp);
+            Content::Rgb {
+                curve: curve_in(file, red + 3, shape.gamma),
+                cicp: cicp_in(file, shape.cicp),
+                chad: numbers_at(file, CHAD_LINE),
+                columns: columns_in(file, red),
+            }
+        }
+        Kind::Xyb => Content::Xyb,
     }
 }
 
@@ -181,18 +158,20 @@ pub fn numbers_in(file: &[u8], shape: Shape, intent: u32) -> Numbers
     requires { (shape ≡ PlanIn.shape_in file.now) × (intent ≡ (Table.varying_of file.now).intent) }
     ensures { result ≡ numbers_of (PlanIn.plan_in file.now) }
 {
-    let plan = content_in(file, shape, intent);
-    profile::with_device(plan, read_u32_be(file, MAKER), read_u32_be(file, MODEL))
+    Numbers {
+        intent,
+        maker: read_u32_be(file, MAKER),
+        model: read_u32_be(file, MODEL),
+        content: content_in(file, shape),
+    }
 }
 
 // The letters of a shape's free text.
 fn free_letters(shape: Shape) -> usize
     ensures { result ≡ PlanIn.free_letters shape.kind shape.letters }
 {
-    let kind = shape.kind;
-    match kind {
-        Kind::Gray => shape.letters,
-        Kind::Rgb => shape.letters,
+    match shape.kind {
+        Kind::Gray | Kind::Rgb => shape.letters,
         Kind::Xyb => 0,
     }
 }
@@ -202,20 +181,19 @@ fn read_letters(file: &[u8], at: usize, letters: usize, text: &mut [u8])
     requires { (at + 2 * letters ≤ length file.now) × (letters ≤ length text.old) }
     ensures { text.new ≡ put text.old 0 (PlanIn.low_bytes (take (2 * letters) (drop at file.now))) }
 {
-    let mut i = 0usize;
-    while i < letters {
+    for i in 0..letters {
         text[i] = file[at + 2 * i + 1];
-        i += 1;
     }
 }
 
-// The text of the one plan that a file of this shape can have, to the front of a text. Answers its length.
-pub fn text_in(file: &[u8], shape: Shape, text: &mut [u8]) -> usize
-    requires { Tabled shape file.now × (max_letters ≤ length text.old) }
-    ensures { PutsText text.old 0 (text_of (PlanIn.plan_in file.now)) result text.new }
+// The text of the one plan that a file of this shape can have.
+pub fn text_in(file: &[u8], shape: Shape) -> Text<MAX_LETTERS>
+    requires { Tabled shape file.now }
+    ensures { IsText (text_of (PlanIn.plan_in file.now)) result }
 {
-    let letters = free_letters(shape);
+    let len = free_letters(shape);
     let at = offset_at(file, DESC_LINE) as usize + MLUC_TEXT;
-    read_letters(file, at, letters, text);
-    letters
+    let mut bytes = [0u8; MAX_LETTERS];
+    read_letters(file, at, len, &mut bytes);
+    Text { bytes, len }
 }

@@ -1,17 +1,16 @@
 -- By the case of the kind.
-use mathlib.Core.Path.{◌≡◌, sym, ap, ◌∙◌}
-use Rattle.profile.specs.Numbers.{numbers_for}
-use Rattle.profile.specs.declared.Kind.{Kind}
-use Rattle.reader_spec.specs.PlanIn.{element_in, content_from}
-use Rattle.plan_in.proofs.content_in.Goals.{Start}
+use Rattle.reader_spec.specs.PlanIn.{content_from}
 use Rattle.plan_in.proofs.content_in.Goals as goal
 
--- what the elements hold, by the kind that is known
-by_kind : (s : Start) {k : Kind} → s.args.shape.kind ≡ k
-    → numbers_for s.args.intent (content_from k s.args.shape (element_in s.args.file.now))
-    ≡ numbers_for s.args.intent (content_from s.args.shape.kind s.args.shape (element_in s.args.file.now))
-by_kind s e = ap (λ (k : Kind). numbers_for s.args.intent (content_from k s.args.shape (element_in s.args.file.now))) (sym e)
+pub returns-in-Gray : goal.returns-in-Gray
+unfolding content_from
+returns-in-Gray c = rw (c.in-Gray.is, c.curve_in.ensures, c.gray_curve_line.ensures, c.white_in.ensures)
+
+pub returns-in-Rgb : goal.returns-in-Rgb
+unfolding content_from
+returns-in-Rgb c =
+    rw (c.in-Rgb.is, c.curve_in-in-Rgb.ensures, c.cicp_in.ensures, c.numbers_at.ensures, c.columns_in.ensures, c.red_line-red.ensures.0)
 
 pub returns-in-Xyb : goal.returns-in-Xyb
 unfolding content_from
-returns-in-Xyb c = c.xyb_numbers.ensures ∙ by_kind (goal.at.returns-in-Xyb c).Start c.in-Xyb.is
+returns-in-Xyb c = rw c.in-Xyb.is

@@ -1,11 +1,10 @@
--- With i letters behind it, the loop has put the first i: the law `one_more`. The measure is how many are left. Assumes nothing.
+-- With i letters behind it, the loop has put the first i: the law `one_more`. Assumes nothing.
 use Prim.Native.Nat.{◌+◌, ◌*◌}
-use mathlib.Core.Path.{refl, sym}
+use mathlib.Core.Path.{sym}
 use native.Mathlib.Omega.{arith}
 use native.Mathlib.Nat.{add_assoc}
-use lib.ListN.{drop, length-set, length-drop}
+use lib.ListN.{drop, length-drop}
 use lib.Seq.{get_or-drop}
-use borrow.Author.Rules.{rules}
 use Rattle.buffer.specs.BufferLaws.{put_nothing}
 use Rattle.reader_spec.specs.PlanIn.{low_bytes}
 use Rattle.plan_in.proofs.Letters.{one_more}
@@ -13,14 +12,11 @@ use Rattle.plan_in.proofs.read_letters.Goals as goal
 
 pub loop-i-init : goal.loop-i-init
 unfolding low_bytes
-loop-i-init c = (search rules, refl, sym (put_nothing _ _))
+loop-i-init c = sym (put_nothing _ _)
 
 pub loop-i-preserved : goal.loop-i-preserved
 loop-i-preserved c =
     let at = c.loop-i in
-    let l = drop c.args.at c.args.file.now in (
-      search rules,
-      simp length-set (omega arith),
-      rw (at.invariant.2, add_assoc c.args.at (2 * at.i) 1, ← get_or-drop c.args.at c.args.file.now (2 * at.i + 1) 0)
-          (one_more c.args.text.now l at.i (omega arith) (simp length-drop (omega arith))),
-    )
+    let l = drop c.args.at c.args.file.now in
+    rw (at.invariant, add_assoc c.args.at (2 * at.i) 1, ← get_or-drop c.args.at c.args.file.now (2 * at.i + 1) 0)
+    (one_more c.args.text.now l at.i (omega arith) (simp length-drop (omega arith)))
