@@ -1,9 +1,8 @@
 -- The curve of an encoding and its `cicp` value, or the refusal (01, the refusal list); the floats that its fixed numbers are made from.
 -- Assumes nothing.
-use Rattle.std.specs.Prelude.{ℕ, List, [], ◌∷◌, Float}
+use Rattle.std.specs.Prelude.{ℕ, Option, Some, None, List, [], ◌∷◌, Float}
 use Rattle.floats.specs.Binary32.{◌⊘◌, one}
 use Rattle.numbers.specs.Fixed.{fixed_or}
-use Rattle.numbers.specs.Rounded.{Counted}
 use Rattle.color_encoding.specs.declared.JxlWhitePoint.{JxlWhitePoint}
 use Rattle.color_encoding.specs.declared.JxlWhitePoint.TheVariants as W
 use Rattle.color_encoding.specs.declared.JxlPrimaries.{JxlPrimaries}
@@ -14,35 +13,19 @@ use Rattle.profile.specs.FixedConstants.{parameter_floats}
 use Rattle.profile.specs.declared.CurveName.TheVariants as Name
 use Rattle.profile.specs.declared.Curve.{Curve}
 use Rattle.profile.specs.declared.Curve.TheVariants.{Named, Gamma}
-use Rattle.profile.specs.declared.Cicp.{Cicp}
-use Rattle.profile.specs.declared.Cicp.TheVariants.{Absent, Primaries}
 use Rattle.buffer.specs.Checked.{Checked, is, refused, then}
 use Rattle.encoding_curve.specs.declared.SupportedCurve.{SupportedCurve}
 use Rattle.encoding_curve.specs.declared.SupportedCurve.TheVariants as Supported
-use Rattle.encoding_curve.specs.declared.Support.{Support}
-use Rattle.encoding_curve.specs.declared.Support.TheVariants as S
-use Rattle.encoding_curve.specs.declared.CurveAnswer.{CurveAnswer}
-use Rattle.encoding_curve.specs.declared.CurveAnswer.TheVariants as C
 
--- ---- what each answer of the code stands for
+-- ---- the curve
 
 -- 1: the curve is PQ or HLG
 abbrev pub unsupported : {A : Type 0} → Checked A
 unsupported = refused 1
 
-abbrev pub checked_support : Support → Checked SupportedCurve
-checked_support (S.Curve c) = is c
-checked_support S.Unsupported = unsupported
-
 -- 8: a gamma's reciprocal does not fit
 abbrev pub reciprocal_refusal : ℕ
 reciprocal_refusal = 8
-
-abbrev pub checked_curve : CurveAnswer → Checked (Counted Curve)
-checked_curve (C.Curve c k) = is (record { value = c; rounded = k })
-checked_curve C.OutOfRange = refused reciprocal_refusal
-
--- ---- the curve
 
 abbrev pub supported : JxlTransferFunction → Checked SupportedCurve
 supported F.PQ = unsupported
@@ -65,26 +48,26 @@ curve_floats (Supported.Gamma g) = one ⊘ g ∷ []
 
 -- ---- the `cicp` tag
 
--- ColourPrimaries of H.273: primaries that it names with D65, and with DCI
-abbrev with_d65 : JxlPrimaries → Cicp
-with_d65 P.SRGB = Primaries 1
-with_d65 P.BT2100 = Primaries 9
-with_d65 P.P3 = Primaries 12
-with_d65 (P.Chromaticities rx ry gx gy bx by) = Absent
+-- ColourSome of H.273: primaries that it names with D65, and with DCI
+abbrev with_d65 : JxlPrimaries → Option ℕ
+with_d65 P.SRGB = Some 1
+with_d65 P.BT2100 = Some 9
+with_d65 P.P3 = Some 12
+with_d65 (P.Chromaticities rx ry gx gy bx by) = None
 
-abbrev with_dci : JxlPrimaries → Cicp
-with_dci P.P3 = Primaries 11
-with_dci P.SRGB = Absent
-with_dci P.BT2100 = Absent
-with_dci (P.Chromaticities rx ry gx gy bx by) = Absent
+abbrev with_dci : JxlPrimaries → Option ℕ
+with_dci P.P3 = Some 11
+with_dci P.SRGB = None
+with_dci P.BT2100 = None
+with_dci (P.Chromaticities rx ry gx gy bx by) = None
 
-abbrev pub cicp_pair : JxlWhitePoint → JxlPrimaries → Cicp
+abbrev pub cicp_pair : JxlWhitePoint → JxlPrimaries → Option ℕ
 cicp_pair W.D65 p = with_d65 p
 cicp_pair W.DCI p = with_dci p
-cicp_pair W.E p = Absent
-cicp_pair (W.Chromaticity wx wy) p = Absent
+cicp_pair W.E p = None
+cicp_pair (W.Chromaticity wx wy) p = None
 
 -- no gamma has the tag
-abbrev pub cicp_of : JxlWhitePoint → JxlPrimaries → Curve → Cicp
+abbrev pub cicp_of : JxlWhitePoint → JxlPrimaries → Curve → Option ℕ
 cicp_of w p (Named n) = cicp_pair w p
-cicp_of w p (Gamma g) = Absent
+cicp_of w p (Gamma g) = None

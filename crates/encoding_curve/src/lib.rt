@@ -5,49 +5,38 @@
 ghost use Rattle.std.specs.Prelude.{◌≡◌};
 ghost use Rattle.numbers.specs.Rounded.{rounded_in, counted};
 ghost use Rattle.profile.specs.FixedConstants.{parameter_floats};
-ghost use Rattle.encoding_curve.specs.CurveOf.{checked_support, checked_curve, supported, curve_of, curve_floats, cicp_of};
+ghost use Rattle.refusals.specs.Refusals.{checked};
+ghost use Rattle.encoding_curve.specs.CurveOf.{supported, curve_of, curve_floats, cicp_of};
 
 use color_encoding::{JxlPrimaries, JxlTransferFunction, JxlWhitePoint};
-use numbers::S15Fixed16;
-use profile::{Cicp, Curve, CurveName};
+use numbers::Counted;
+use profile::{Curve, CurveName};
+use refusals::Refusal;
 
 // A transfer function that a profile can have: a named curve, or a gamma g.
-#[derive(Clone, Copy)]
+#[derive(Clone, Copy, Debug, PartialEq)]
 pub enum SupportedCurve {
     Named(CurveName),
     Gamma(f32),
 }
 
-#[derive(Clone, Copy)]
-pub enum Support {
-    Curve(SupportedCurve),
-    // PQ and HLG.
-    Unsupported,
-}
-
-// A curve and how many of its numbers were rounded, or that a gamma's reciprocal does not fit.
-#[derive(Clone, Copy)]
-pub enum CurveAnswer {
-    Curve { curve: Curve, rounded: u8 },
-    OutOfRange,
-}
-
-pub fn supported(transfer: JxlTransferFunction) -> Support
-    ensures { checked_support result ≡ supported transfer }
+pub fn supported(transfer: JxlTransferFunction) -> Result<SupportedCurve, Refusal>
+    ensures { checked result ≡ supported transfer }
 {
     match transfer {
-        JxlTransferFunction::BT709 => Support::Curve(SupportedCurve::Named(CurveName::BT709)),
-        JxlTransferFunction::Linear => Support::Curve(SupportedCurve::Named(CurveName::Linear)),
-        JxlTransferFunction::SRGB => Support::Curve(SupportedCurve::Named(CurveName::SRGB)),
-        JxlTransferFunction::DCI => Support::Curve(SupportedCurve::Named(CurveName::DCI)),
-        JxlTransferFunction::Gamma(g) => Support::Curve(SupportedCurve::Gamma(g)),
-        JxlTransferFunction::PQ => Support::Unsupported,
-        JxlTransferFunction::HLG => Support::Unsupported,
+        JxlTransferFunction::BT709 => Ok(SupportedCurve::Named(CurveName::BT709)),
+        JxlTransferFunction::Linear => Ok(SupportedCurve::Named(CurveName::Linear)),
+        JxlTransferFunction::SRGB => Ok(SupportedCurve::Named(CurveName::SRGB)),
+        JxlTransferFunction::DCI => Ok(SupportedCurve::Named(CurveName::DCI)),
+        JxlTransferFunction::Gamma(g) => Ok(SupportedCurve::Gamma(g)),
+        JxlTransferFunction::PQ | JxlTransferFunction::HLG => {
+            Err(Refusal::UnsupportedTransferFunction)
+        }
     }
 }
 
 // How many of the five numbers of a named curve are rounded.
-fn named_rounded(name: CurveName) -> u8
+fn named_rounded(name: CurveName) -> u32
     ensures { result ≡ rounded_in (parameter_floats name) }
 {
     match name {
@@ -58,59 +47,35 @@ fn named_rounded(name: CurveName) -> u8
     }
 }
 
-pub fn curve_of(curve: SupportedCurve) -> CurveAnswer
-    ensures { checked_curve result ≡ counted (curve_floats curve) (curve_of curve) }
+// A curve and how many of its numbers were rounded; a gamma's reciprocal may not fit.
+pub fn curve_of(curve: SupportedCurve) -> Result<Counted<Curve>, Refusal>
+    ensures { checked result ≡ counted (curve_floats curve) (curve_of curve) }
 {
     match curve {
-        SupportedCurve::Named(name) => CurveAnswer::Curve {
-            curve: Curve::Named(name),
+        SupportedCurve::Named(name) => Ok(Counted {
+            value: Curve::Named(name),
             rounded: named_rounded(name),
-        },
-        SupportedCurve::Gamma(g) => match numbers::to_s15_fixed_16(1.0 / g) {
-            S15Fixed16::Number { number, whole } => CurveAnswer::Curve {
-                curve: Curve::Gamma(number),
-                rounded: numbers::one_if_rounded(whole),
-            },
-            S15Fixed16::OutOfRange => CurveAnswer::OutOfRange,
-        },
+        }),
+        SupportedCurve::Gamma(g) => {
+            let reciprocal = numbers::to_s15_fixed_16(1.0 / g).ok_or(Refusal::GammaOutOfRange)?;
+            Ok(Counted {
+                value: Curve::Gamma(reciprocal.number),
+                rounded: numbers::one_if_rounded(reciprocal.whole),
+            })
+        }
     }
 }
 
 // The primaries value of the `cicp` tag: the four pairs that H.273 names, beside a named curve.
-pub fn cicp_of(white: JxlWhitePoint, primaries: JxlPrimaries, curve: Curve) -> Cicp
+pub fn cicp_of(white: JxlWhitePoint, primaries: JxlPrimaries, curve: Curve) -> Option<u8>
     ensures { result ≡ cicp_of white primaries curve }
 {
-    match curve {
-        Curve::Gamma(_) => Cicp::Absent,
-        Curve::Named(_) => match white {
-            JxlWhitePoint::D65 => match primaries {
-                JxlPrimaries::SRGB => Cicp::Primaries(1),
-                JxlPrimaries::BT2100 => Cicp::Primaries(9),
-                JxlPrimaries::P3 => Cicp::Primaries(12),
-                JxlPrimaries::Chromaticities {
-                    rx: _,
-                    ry: _,
-                    gx: _,
-                    gy: _,
-                    bx: _,
-                    by: _,
-                } => Cicp::Absent,
-            },
-            JxlWhitePoint::DCI => match primaries {
-                JxlPrimaries::P3 => Cicp::Primaries(11),
-                JxlPrimaries::SRGB => Cicp::Absent,
-                JxlPrimaries::BT2100 => Cicp::Absent,
-                JxlPrimaries::Chromaticities {
-                    rx: _,
-                    ry: _,
-                    gx: _,
-                    gy: _,
-                    bx: _,
-                    by: _,
-                } => Cicp::Absent,
-            },
-            JxlWhitePoint::E => Cicp::Absent,
-            JxlWhitePoint::Chromaticity { wx: _, wy: _ } => Cicp::Absent,
-        },
+    match (curve, white, primaries) {
+        (Curve::Gamma(_), _, _) => None,
+        (_, JxlWhitePoint::D65, JxlPrimaries::SRGB) => Some(1),
+        (_, JxlWhitePoint::D65, JxlPrimaries::BT2100) => Some(9),
+        (_, JxlWhitePoint::D65, JxlPrimaries::P3) => Some(12),
+        (_, JxlWhitePoint::DCI, JxlPrimaries::P3) => Some(11),
+        _ => None,
     }
 }
