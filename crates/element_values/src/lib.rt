@@ -12,6 +12,7 @@ ghost use Rattle.profile.specs.TagTypes as TagTypes;
 use profile::{BT709_GAMMA, Curve, CurveName, DCI_GAMMA, LINEAR_GAMMA, MLUC_TEXT, SRGB_GAMMA};
 
 // How many bytes of padding follow an element of `size` bytes: up to a multiple of 4.
+#[tactic(auto, unfolding(profile::specs::Elements::padding))]
 pub fn padding(size: usize) -> usize
     ensures { result ≡ Elements.padding size }
 {
@@ -55,6 +56,7 @@ fn transfer(curve: Curve) -> u8
 const FULL_RANGE: u8 = 1;
 
 // A `cicp` element: primaries, transfer, matrix coefficients 0, full range.
+#[tactic(auto, unfolding(profile::specs::TagTypes::cicp, profile::specs::TagTypes::join))]
 pub fn cicp_bytes(primaries: u8, curve: Curve) -> [u8; 12]
     ensures { result ≡ TagTypes.cicp primaries curve }
 {

@@ -1,11 +1,9 @@
 -- Where the elements of the tags stand, and the table that says so. Assumes nothing.
-use Rattle.std.specs.Prelude.{ℕ, ◌+◌, ◌≤◌, cond, List, [], ◌∷◌, ◌++◌, take}
+use Rattle.std.specs.Prelude.{ℕ, ◌+◌, ◌≤◌, cond, List, [], ◌∷◌, ◌++◌, length}
 use Rattle.words.specs.Words.{be32}
 use Rattle.profile.specs.Elements.{Entry, entry, entries_bytes, line_start, padded_size}
 use Rattle.profile.specs.Shape.{max_length}
-use Rattle.tags.specs.Tags.{max_tags}
 use Rattle.tags.specs.declared.Tag.{Tag}
-use Rattle.tags.specs.declared.Tags.{Tags}
 use Rattle.tag_table.specs.declared.Place.{Place}
 
 -- the place of a tag's element, from that of the tag before it
@@ -30,20 +28,14 @@ unfoldable pub finish : Place → List Tag → ℕ
 finish p [] = p.end
 finish p (t ∷ ts) = finish (placed p t) ts
 
--- ---- the tags of an array
-
--- the others are unused
-abbrev pub used : Tags → List Tag
-used r = take r.count r.tags
-
--- where their last element ends, which is the length of the profile
-abbrev pub end_of : Tags → ℕ
-end_of r = finish (begin r.count) (used r)
+-- where their last element ends, if these are the tags of a profile: its length
+abbrev pub end_of : List Tag → ℕ
+end_of ts = finish (begin (length ts)) ts
 
 -- the tag table (ICC.1:2022, 7.3): the number of tags, and their entries
-abbrev pub table_of : Tags → List ℕ
-table_of r = be32 r.count ++ entries_bytes (walk (begin r.count) (used r))
+abbrev pub table_of : List Tag → List ℕ
+table_of ts = be32 (length ts) ++ entries_bytes (walk (begin (length ts)) ts)
 
--- the array holds them, and their elements do not go beyond the longest profile
-abbrev pub Fits : Tags → Type 0
-Fits r = (r.count ≤ max_tags) × (end_of r ≤ max_length)
+-- their elements do not go beyond the longest profile
+abbrev pub Fits : List Tag → Type 0
+Fits ts = end_of ts ≤ max_length

@@ -1,25 +1,23 @@
 -- The tags of a list of elements, walked one after another, stand where the tag table says. Assumes nothing.
 use Rattle.std.specs.Prelude.{ℕ, suc, ◌+◌, ◌*◌, ◌≤◌, ◌<◌, ◌≡◌, Bool, true, false, cond, length, drop, get_or}
 use Rattle.std.proofs.Math.Path.{refl, ap, sym}
-use Rattle.std.proofs.Common.{◌∙◌, add-zero, add_assoc, add-one, arith, length-append, drop_of_length-le, drop-cons, get_or-take, length-take-le}
+use Rattle.std.proofs.Common.{◌∙◌, add-zero, add_assoc, add-one, arith, length-append, drop_of_length-le, drop-cons}
 use mathlib.Core.List.{List, [], ◌∷◌, ◌++◌, map}
 use Rattle.std.proofs.lemmas.List.{length-map}
-use Rattle.std.proofs.Math.Seq.{take_at}
 use Rattle.buffer.specs.Puts.{Puts}
 use Rattle.buffer.specs.All.{All, none, more}
 use Rattle.words.specs.Words.{be32}
 use Rattle.profile.specs.Elements.{Slot, Entry, entry, entries, entries_bytes, padded_size, body_size, tag_count, header_size, count_size, line_size, line_start, start, table, file_length}
 use Rattle.profile.specs.Plan.{max_letters}
 use Rattle.profile.specs.PlanLaws.{at_most}
-use Rattle.profile.specs.Shape.{sized, slots_for, slots_of}
+use Rattle.profile.specs.Shape.{sized, slots_for, slots_of, max_length}
 use Rattle.profile.specs.declared.Kind.{Kind}
 use Rattle.profile.specs.declared.Kind.TheVariants.{Gray, Rgb, Xyb}
 use Rattle.profile.specs.declared.Shape.{Shape}
 use Rattle.tags.specs.declared.Tag.{Tag}
-use Rattle.tags.specs.declared.Tags.{Tags}
 use Rattle.tag_table.specs.declared.Place.{Place}
-use Rattle.tags.specs.Tags.{first, other, naming, tags, max_tags, listed}
-use Rattle.tag_table.specs.Places.{placed, begin, entry_of, walk, finish, used, end_of, table_of, Fits}
+use Rattle.tags.specs.Tags.{other, naming, tags, gray_slots, rgb_slots, xyb_slots}
+use Rattle.tag_table.specs.Places.{placed, begin, entry_of, walk, finish, end_of, table_of, Fits}
 
 -- ---- how many tags there are
 
@@ -44,21 +42,16 @@ some n = omega arith
 tagged : {n : ℕ} {g : List ℕ} {gs : List (List ℕ)} {ss : List Slot} → Named ss → Named (sized (g ∷ gs) n ∷ ss)
 tagged h = more (some _) h
 
-by_kind : (k : Kind) (s : Shape) (v a : Bool) → s.cicp ≡ v → s.adapted ≡ a → Named (slots_for k s) × (tag_count (slots_for k s) ≤ max_tags)
-unfolding tag_count
-by_kind Gray s v true e h = rw h (tagged (tagged (tagged (tagged (tagged none)))), omega arith)
-by_kind Gray s v false e h = rw h (tagged (tagged (tagged (tagged none))), omega arith)
-by_kind Rgb s true a e h = rw e (tagged (tagged (tagged (tagged (tagged (tagged (tagged (tagged (tagged none)))))))), omega arith)
-by_kind Rgb s false a e h = rw e (tagged (tagged (tagged (tagged (tagged (tagged (tagged (tagged none))))))), omega arith)
-by_kind Xyb s v a e h = (tagged (tagged (tagged (tagged (tagged (tagged none))))), omega arith)
+by_kind : (k : Kind) (s : Shape) (v a : Bool) → s.cicp ≡ v → s.adapted ≡ a → Named (slots_for k s)
+by_kind Gray s v true e h = rw h (tagged (tagged (tagged (tagged (tagged none)))))
+by_kind Gray s v false e h = rw h (tagged (tagged (tagged (tagged none))))
+by_kind Rgb s true a e h = rw e (tagged (tagged (tagged (tagged (tagged (tagged (tagged (tagged (tagged none)))))))))
+by_kind Rgb s false a e h = rw e (tagged (tagged (tagged (tagged (tagged (tagged (tagged (tagged none))))))))
+by_kind Xyb s v a e h = tagged (tagged (tagged (tagged (tagged (tagged none)))))
 
 pub named : (s : Shape) → Named (slots_of s)
 unfolding slots_of
-named s = (by_kind s.kind s s.cicp s.adapted refl refl).0
-
-few_tags : (s : Shape) → length (tags (slots_of s)) ≤ max_tags
-unfolding slots_of
-few_tags s = rw length-tags (by_kind s.kind s s.cicp s.adapted refl refl).1
+named s = by_kind s.kind s s.cicp s.adapted refl refl
 
 -- ---- a walk over the tags
 
@@ -125,7 +118,7 @@ length-walk p [] = refl
 length-walk p (t ∷ ts) = ap suc (length-walk (placed p t) ts)
 
 module _ {ts : List Tag} {p₀ p : Place} {i : ℕ} (w : Walked ts p₀ i p) where
-  walked_end : i ≡ length ts → p.end ≡ finish p₀ ts
+  pub walked_end : i ≡ length ts → p.end ≡ finish p₀ ts
   unfolding finish
   walked_end h = ap (finish p) (sym (drop_of_length-le ts {i = i} (omega arith))) ∙ w.end
 
@@ -140,83 +133,64 @@ module _ {ts : List Tag} {p₀ p : Place} {i : ℕ} (w : Walked ts p₀ i p) whe
     unfolding finish
     ended = sym (ap (finish p) rest) ∙ w.end
 
-    walked_within : (placed p this).end ≤ finish p₀ ts
+    pub walked_within : (placed p this).end ≤ finish p₀ ts
     walked_within = rw (← ended) (grows (placed p this) (drop (i + 1) ts))
+
+    -- where its element ends, in a profile
+    pub walked_fits : p₀ ≡ begin (length ts) → Fits ts → (placed p this).end ≤ max_length
+    walked_fits e f = let within = rw e at walked_within in omega (arith, within, f)
 
     -- the entry of this tag and those of the rest
     lined : entry_of (placed p this) this ∷ walk (placed p this) (drop (i + 1) ts) ≡ get_or (walk p₀ ts) i (entry 0 0 []) ∷ drop (i + 1) (walk p₀ ts)
     unfolding walk
     lined = sym (ap (walk p) rest) ∙ w.lines ∙ rw (add-one i) (drop-cons (walk p₀ ts) i (entry 0 0 []) (rw (length-walk p₀ ts) h))
 
-    walked_entry : entry_of (placed p this) this ≡ get_or (walk p₀ ts) i (entry 0 0 [])
+    pub walked_entry : entry_of (placed p this) this ≡ get_or (walk p₀ ts) i (entry 0 0 [])
     walked_entry = let e = lined in cc
 
-    walked_next : Walked ts p₀ (i + 1) (placed p this)
+    pub walked_next : Walked ts p₀ (i + 1) (placed p this)
     walked_next = let e = lined in record { within = omega arith; lines = cc; end = ended }
 
--- ---- the tags of an array
+-- ---- the tags of a profile
 
-pub count_used : (r : Tags) → Fits r → length r.tags ≡ max_tags → length (used r) ≡ r.count
-count_used r h n = length-take-le r.count r.tags (omega (arith, h.0, n))
+-- they begin within it
+pub fits_begin : (ts : List Tag) → Fits ts → line_start (length ts) ≤ max_length
+fits_begin ts h = omega (arith, h, grows (begin (length ts)) ts)
 
-module _ (r : Tags) (n : length (used r) ≡ r.count) {p₀ p : Place} {i : ℕ} (w : Walked (used r) p₀ i p) where
-  -- after the last tag
-  pub end_walked : p₀ ≡ begin r.count → r.count ≤ i → p.end ≡ end_of r
-  end_walked e h = walked_end w (omega (arith, w.within, n)) ∙ ap (λ (q : Place). finish q (used r)) e
+pub gray_told : (s : Shape) (a : Bool) → s.kind ≡ Gray → s.adapted ≡ a → tags (gray_slots a s) ≡ tags (slots_of s)
+unfolding slots_of
+gray_told s a k e = rw (k, e) refl
 
-  -- at a tag
-  module _ (h : i < r.count) where
-    abbrev read : Tag
-    read = get_or r.tags i (first 0 [])
+pub rgb_told : (s : Shape) (v : Bool) → s.kind ≡ Rgb → s.cicp ≡ v → tags (rgb_slots v s) ≡ tags (slots_of s)
+unfolding slots_of
+rgb_told s v k e = rw (k, e) refl
 
-    here : i < length (used r)
-    here = rw n h
+pub xyb_told : (s : Shape) → s.kind ≡ Xyb → tags xyb_slots ≡ tags (slots_of s)
+unfolding slots_of
+xyb_told s k = rw k refl
 
-    same : get_or (used r) i (first 0 []) ≡ read
-    same = get_or-take r.count r.tags i (first 0 []) h
+module _ (s : Shape) {ts : List Tag} (e : ts ≡ tags (slots_of s)) where
+  count_tags : length ts ≡ tag_count (slots_of s)
+  count_tags = ap length e ∙ length-tags (slots_of s)
 
-    pub step_within : p₀ ≡ begin r.count → (placed p read).end ≤ end_of r
-    step_within e = rw (same, e) at (walked_within w (first 0 []) here)
-
-    pub step : Walked (used r) p₀ (i + 1) (placed p read)
-    step = rw same at (walked_next w (first 0 []) here)
-
-    pub step_entry : entry_of (placed p read) read ≡ get_or (walk p₀ (used r)) i (entry 0 0 [])
-    step_entry = rw same at (walked_entry w (first 0 []) here)
-
--- ---- those of a shape
-
-module _ (s : Shape) {k : Kind} {r : Tags} (told : s.kind ≡ k) (e : r ≡ listed (tags (slots_for k s))) where
-  of_shape : r ≡ listed (tags (slots_of s))
-  unfolding slots_of
-  of_shape = e ∙ ap (λ (k : Kind). listed (tags (slots_for k s))) (sym told)
-
-  used_tags : used r ≡ tags (slots_of s)
-  unfolding listed
-  used_tags = ap used of_shape ∙ take_at (tags (slots_of s)) _ (length (tags (slots_of s))) refl
-
-  count_tags : r.count ≡ tag_count (slots_of s)
-  unfolding listed
-  count_tags = ap (λ (r : Tags). r.count) of_shape ∙ length-tags (slots_of s)
-
-  end_tags : end_of r ≡ file_length (slots_of s)
+  end_tags : end_of ts ≡ file_length (slots_of s)
   unfolding file_length start
-  end_tags = rw (used_tags, count_tags) (finish_body (begin (tag_count (slots_of s))) (slots_of s) (named s))
+  end_tags = rw (count_tags, e) (finish_body (begin (tag_count (slots_of s))) (slots_of s) (named s))
 
-  table_tags : table_of r ≡ table (slots_of s)
+  table_tags : table_of ts ≡ table (slots_of s)
   unfolding table start
-  table_tags = rw (used_tags, count_tags) (ap (λ (l : List Entry). be32 (tag_count (slots_of s)) ++ entries_bytes l) (walk_entries (begin (tag_count (slots_of s))) (slots_of s) (named s)))
+  table_tags = rw (count_tags, e) (ap (λ (l : List Entry). be32 (tag_count (slots_of s)) ++ entries_bytes l) (walk_entries (begin (tag_count (slots_of s))) (slots_of s) (named s)))
 
-  pub fits : s.letters ≤ max_letters → Fits r
-  fits g = (rw (count_tags, ← length-tags) (few_tags s), rw end_tags (at_most s g))
+  pub fits : s.letters ≤ max_letters → Fits ts
+  fits g = rw end_tags (at_most s g)
 
-  pub ends : {n : ℕ} → n ≡ end_of r → n ≡ file_length (slots_of s)
+  pub ends : {n : ℕ} → n ≡ end_of ts → n ≡ file_length (slots_of s)
   ends h = h ∙ end_tags
 
-  pub room : {n : ℕ} → start (slots_of s) ≤ n → line_start r.count ≤ n
+  pub room : {n : ℕ} → start (slots_of s) ≤ n → line_start (length ts) ≤ n
   unfolding start
   room h = rw count_tags h
 
-  pub puts_table : {l out : List ℕ} {q : ℕ} → Puts l header_size (count_size + line_size * r.count) (table_of r) q out
+  pub puts_table : {l out : List ℕ} {q : ℕ} → Puts l header_size (count_size + line_size * length ts) (table_of ts) q out
       → Puts l header_size (count_size + line_size * tag_count (slots_of s)) (table (slots_of s)) q out
   puts_table p = rw (table_tags, count_tags) at p

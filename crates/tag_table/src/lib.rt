@@ -9,12 +9,11 @@ ghost use Rattle.profile.specs.Elements as Elements;
 ghost use Rattle.profile.specs.Elements.{header_size, count_size, line_size, line_start};
 ghost use Rattle.profile.specs.Plan.{max_letters};
 ghost use Rattle.profile.specs.Shape.{slots_of, max_length};
-ghost use Rattle.tags.specs.Tags.{max_tags};
 ghost use Rattle.tag_table.specs.Places as Places;
 
 use elements::write_icc_tag;
 use profile::{Kind, Shape};
-use tags::{Tag, Tags, gray_tags, rgb_tags, xyb_tags};
+use tags::{Tag, adapted_gray_tags, cicp_rgb_tags, gray_tags, rgb_tags, xyb_tags};
 
 pub const HEADER_SIZE: usize = 128;
 
@@ -27,7 +26,7 @@ pub const ENTRY_SIZE: usize = 12;
 pub const MAX_LENGTH: usize = 1240;
 
 // Where the element of a tag starts, and where it ends with its padding.
-#[derive(Clone, Copy)]
+#[derive(Clone, Copy, Debug, PartialEq, Eq)]
 struct Place {
     offset: u32,
     end: u32,
@@ -48,20 +47,12 @@ fn placed(before: Place, tag: Tag) -> Place
     }
 }
 
-// Where the elements start, in a profile with so many tags.
-fn start(count: usize) -> usize
-    requires { count ≤ max_tags }
-    ensures { result ≡ line_start count }
-{
-    HEADER_SIZE + COUNT_SIZE + ENTRY_SIZE * count
-}
-
-// Before the first element.
+// Before the first element, in a profile with so many tags.
 fn begin(count: usize) -> Place
-    requires { count ≤ max_tags }
+    requires { line_start count ≤ max_length }
     ensures { result ≡ Places.begin count }
 {
-    let at = start(count) as u32;
+    let at = (HEADER_SIZE + COUNT_SIZE + ENTRY_SIZE * count) as u32;
     Place {
         offset: at,
         end: at,
@@ -69,32 +60,29 @@ fn begin(count: usize) -> Place
 }
 
 // Where the last element of the tags ends.
-fn end_of(listed: Tags) -> usize
-    requires { Places.Fits listed }
-    ensures { result ≡ Places.end_of listed }
+fn end_of(tags: &[Tag]) -> usize
+    requires { Places.Fits tags.now }
+    ensures { result ≡ Places.end_of tags.now }
 {
-    let tags = listed.tags;
-    let count = listed.count;
-    let mut place = begin(count);
-    let mut i = 0;
-    while i < count {
-        place = placed(place, tags[i]);
-        i += 1;
+    let mut place = begin(tags.len());
+    for tag in tags {
+        place = placed(place, *tag);
     }
     place.end as usize
 }
 
-// How many bytes the layout of a plan of this shape has: where its last element ends. The walk is called for each kind by itself, here and in
-// `put_table`: the compiler then works out beforehand what is constant in a kind's list, which it does not where one call takes any list.
+// How many bytes the layout of a plan of this shape has: where its last element ends. The walk is called for each list by itself, here and in
+// `put_table`: the compiler then works out beforehand what is constant in a list, which it does not where one call takes any list.
 pub fn length(shape: Shape) -> usize
     requires { shape.letters ≤ max_letters }
     ensures { result ≡ Elements.file_length (slots_of shape) }
 {
-    let kind = shape.kind;
-    match kind {
-        Kind::Gray => end_of(gray_tags(shape)),
-        Kind::Rgb => end_of(rgb_tags(shape)),
-        Kind::Xyb => end_of(xyb_tags(shape)),
+    match shape.kind {
+        Kind::Gray if shape.adapted => end_of(&adapted_gray_tags(shape)),
+        Kind::Gray => end_of(&gray_tags(shape)),
+        Kind::Rgb if shape.cicp => end_of(&cicp_rgb_tags(shape)),
+        Kind::Rgb => end_of(&rgb_tags(shape)),
+        Kind::Xyb => end_of(&xyb_tags()),
     }
 }
 
@@ -102,27 +90,21 @@ fn put_tag(out: &mut [u8], at: usize, tag: Tag, offset: u32) -> usize
     requires { at + 12 ≤ ListN.length out.old }
     ensures { Puts out.old at 12 (Elements.entry_bytes (Elements.entry offset tag.size tag.signature)) result out.new }
 {
-    let signature = tag.signature;
-    let at = write_icc_tag(out, at, signature);
+    let at = write_icc_tag(out, at, tag.signature);
     let at = words::put_u32_be(out, at, offset);
     words::put_u32_be(out, at, tag.size)
 }
 
 // The table of the tags: their number and a line for each. Answers where the elements start.
-fn put_lines(out: &mut [u8], listed: Tags) -> usize
-    requires { Places.Fits listed × (line_start listed.count ≤ ListN.length out.old) }
-    ensures { Puts out.old header_size (count_size + line_size * listed.count) (Places.table_of listed) result out.new }
+fn put_lines(out: &mut [u8], tags: &[Tag]) -> usize
+    requires { Places.Fits tags.now × (line_start (ListN.length tags.now) ≤ ListN.length out.old) }
+    ensures { Puts out.old header_size (count_size + line_size * ListN.length tags.now) (Places.table_of tags.now) result out.new }
 {
-    let tags = listed.tags;
-    let count = listed.count;
-    let mut place = begin(count);
-    let mut at = words::put_u32_be(out, HEADER_SIZE, count as u32);
-    let mut i = 0;
-    while i < count {
-        let tag = tags[i];
-        place = placed(place, tag);
-        at = put_tag(out, at, tag, place.offset);
-        i += 1;
+    let mut place = begin(tags.len());
+    let mut at = words::put_u32_be(out, HEADER_SIZE, tags.len() as u32);
+    for tag in tags {
+        place = placed(place, *tag);
+        at = put_tag(out, at, *tag, place.offset);
     }
     at
 }
@@ -132,10 +114,11 @@ pub fn put_table(out: &mut [u8], shape: Shape) -> usize
     requires { (shape.letters ≤ max_letters) × (Elements.start (slots_of shape) ≤ ListN.length out.old) }
     ensures { Puts out.old header_size (count_size + line_size * Elements.tag_count (slots_of shape)) (Elements.table (slots_of shape)) result out.new }
 {
-    let kind = shape.kind;
-    match kind {
-        Kind::Gray => put_lines(out, gray_tags(shape)),
-        Kind::Rgb => put_lines(out, rgb_tags(shape)),
-        Kind::Xyb => put_lines(out, xyb_tags(shape)),
+    match shape.kind {
+        Kind::Gray if shape.adapted => put_lines(out, &adapted_gray_tags(shape)),
+        Kind::Gray => put_lines(out, &gray_tags(shape)),
+        Kind::Rgb if shape.cicp => put_lines(out, &cicp_rgb_tags(shape)),
+        Kind::Rgb => put_lines(out, &rgb_tags(shape)),
+        Kind::Xyb => put_lines(out, &xyb_tags()),
     }
 }

@@ -1,8 +1,8 @@
 // The tags of each kind of profile, in the order of its table. What differs by kind is said here.
 
-#![tactic(auto)]
+#![tactic(auto, unfolding(crate::specs::Tags::tags))]
 
-ghost use Rattle.std.specs.Prelude.{◌≡◌, ◌≤◌};
+ghost use Rattle.std.specs.Prelude.{◌≡◌, ◌≤◌, true, false};
 ghost use Rattle.tags.specs.Tags as Listing;
 ghost use Rattle.profile.specs.Plan.{max_letters};
 ghost use Rattle.profile.specs.Shape as Shapes;
@@ -28,79 +28,12 @@ const A2B0_SIZE: u32 = 292;
 const B2A0_SIZE: u32 = 80;
 
 // A tag and the size of its element. A shared one names the element of the tag before it.
-#[derive(Clone, Copy)]
+#[derive(Clone, Copy, Debug, PartialEq, Eq)]
 pub struct Tag {
     pub signature: [u8; 4],
     pub size: u32,
     pub shared: bool,
 }
-
-// The first `count` are tags; the others are unused.
-#[derive(Clone, Copy)]
-pub struct Tags {
-    pub count: usize,
-    pub tags: [Tag; MAX_TAGS],
-}
-
-const UNUSED: Tag = Tag {
-    signature: [0; 4],
-    size: 0,
-    shared: false,
-};
-
-const CPRT: Tag = Tag {
-    signature: *b"cprt",
-    size: CPRT_SIZE,
-    shared: false,
-};
-
-const WTPT: Tag = Tag {
-    signature: *b"wtpt",
-    size: XYZ_SIZE,
-    shared: false,
-};
-
-const CHAD: Tag = Tag {
-    signature: *b"chad",
-    size: CHAD_SIZE,
-    shared: false,
-};
-
-const CICP: Tag = Tag {
-    signature: *b"cicp",
-    size: CICP_SIZE,
-    shared: false,
-};
-
-const RXYZ: Tag = Tag {
-    signature: *b"rXYZ",
-    size: XYZ_SIZE,
-    shared: false,
-};
-
-const GXYZ: Tag = Tag {
-    signature: *b"gXYZ",
-    size: XYZ_SIZE,
-    shared: false,
-};
-
-const BXYZ: Tag = Tag {
-    signature: *b"bXYZ",
-    size: XYZ_SIZE,
-    shared: false,
-};
-
-const A2B0: Tag = Tag {
-    signature: *b"A2B0",
-    size: A2B0_SIZE,
-    shared: false,
-};
-
-const B2A0: Tag = Tag {
-    signature: *b"B2A0",
-    size: B2A0_SIZE,
-    shared: false,
-};
 
 // A tag with an element of its own.
 fn own(signature: [u8; 4], size: u32) -> Tag
@@ -138,67 +71,77 @@ fn curve_size(gamma: bool) -> u32
     if gamma { GAMMA_SIZE } else { CURVE_SIZE }
 }
 
-// `chad` stands only where the white is adapted to D50.
-pub fn gray_tags(shape: Shape) -> Tags
+// Of gray whose white is its own.
+pub fn gray_tags(shape: Shape) -> [Tag; 4]
     requires { shape.letters ≤ max_letters }
-    ensures { result ≡ Listing.listed (Listing.tags (Shapes.slots_for Kind.Gray shape)) }
+    ensures { result ≡ Listing.tags (Listing.gray_slots false shape) }
 {
-    let none = UNUSED;
-    let desc = text(*b"desc", shape.letters);
-    let curve = own(*b"kTRC", curve_size(shape.gamma));
-    if shape.adapted {
-        let white = WTPT;
-        let chad = CHAD;
-        return Tags {
-            count: 5,
-            tags: [
-                desc, CPRT, white, chad, curve, none, none, none, none, none, none,
-            ],
-        };
-    }
-    Tags {
-        count: 4,
-        tags: [
-            desc, CPRT, WTPT, curve, none, none, none, none, none, none, none,
-        ],
-    }
+    [
+        text(*b"desc", shape.letters),
+        own(*b"cprt", CPRT_SIZE),
+        own(*b"wtpt", XYZ_SIZE),
+        own(*b"kTRC", curve_size(shape.gamma)),
+    ]
 }
 
-// The three curves of RGB are one element.
-pub fn rgb_tags(shape: Shape) -> Tags
+// Of gray whose white is adapted to D50: `chad` stands only there.
+pub fn adapted_gray_tags(shape: Shape) -> [Tag; 5]
     requires { shape.letters ≤ max_letters }
-    ensures { result ≡ Listing.listed (Listing.tags (Shapes.slots_for Kind.Rgb shape)) }
+    ensures { result ≡ Listing.tags (Listing.gray_slots true shape) }
 {
-    let desc = text(*b"desc", shape.letters);
+    let [desc, cprt, wtpt, curve] = gray_tags(shape);
+    [desc, cprt, wtpt, own(*b"chad", CHAD_SIZE), curve]
+}
+
+// Of RGB without `cicp`. The three curves are one element.
+pub fn rgb_tags(shape: Shape) -> [Tag; 10]
+    requires { shape.letters ≤ max_letters }
+    ensures { result ≡ Listing.tags (Listing.rgb_slots false shape) }
+{
     let size = curve_size(shape.gamma);
-    let red = own(*b"rTRC", size);
-    let green = shared(*b"gTRC", size);
-    let blue = shared(*b"bTRC", size);
-    if shape.cicp {
-        return Tags {
-            count: 11,
-            tags: [
-                desc, CPRT, WTPT, CHAD, CICP, RXYZ, GXYZ, BXYZ, red, green, blue,
-            ],
-        };
-    }
-    Tags {
-        count: 10,
-        tags: [
-            desc, CPRT, WTPT, CHAD, RXYZ, GXYZ, BXYZ, red, green, blue, UNUSED,
-        ],
-    }
+    [
+        text(*b"desc", shape.letters),
+        own(*b"cprt", CPRT_SIZE),
+        own(*b"wtpt", XYZ_SIZE),
+        own(*b"chad", CHAD_SIZE),
+        own(*b"rXYZ", XYZ_SIZE),
+        own(*b"gXYZ", XYZ_SIZE),
+        own(*b"bXYZ", XYZ_SIZE),
+        own(*b"rTRC", size),
+        shared(*b"gTRC", size),
+        shared(*b"bTRC", size),
+    ]
 }
 
-pub fn xyb_tags(shape: Shape) -> Tags
-    ensures { result ≡ Listing.listed (Listing.tags (Shapes.slots_for Kind.Xyb shape)) }
+pub fn cicp_rgb_tags(shape: Shape) -> [Tag; MAX_TAGS]
+    requires { shape.letters ≤ max_letters }
+    ensures { result ≡ Listing.tags (Listing.rgb_slots true shape) }
 {
-    let none = UNUSED;
-    let desc = text(*b"desc", profile::XYB_LETTERS);
-    Tags {
-        count: 6,
-        tags: [
-            desc, CPRT, WTPT, CHAD, A2B0, B2A0, none, none, none, none, none,
-        ],
-    }
+    let [desc, cprt, wtpt, chad, r, g, b, red, green, blue] = rgb_tags(shape);
+    [
+        desc,
+        cprt,
+        wtpt,
+        chad,
+        own(*b"cicp", CICP_SIZE),
+        r,
+        g,
+        b,
+        red,
+        green,
+        blue,
+    ]
+}
+
+pub fn xyb_tags() -> [Tag; 6]
+    ensures { result ≡ Listing.tags Listing.xyb_slots }
+{
+    [
+        text(*b"desc", profile::XYB_LETTERS),
+        own(*b"cprt", CPRT_SIZE),
+        own(*b"wtpt", XYZ_SIZE),
+        own(*b"chad", CHAD_SIZE),
+        own(*b"A2B0", A2B0_SIZE),
+        own(*b"B2A0", B2A0_SIZE),
+    ]
 }

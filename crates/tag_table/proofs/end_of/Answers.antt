@@ -1,27 +1,21 @@
--- The walk over the tags, from where the elements start: the laws `step` and `end_walked`. The measure is how many tags are left.
+-- The walk over the tags, from where the elements start: the laws of `Walked`.
 -- Assumes nothing.
-use borrow.Author.Rules.{rules}
-use Prim.Native.Nat.{◌-◌}
-use mathlib.Core.Path.{◌≡◌}
-use native.Mathlib.Omega.{arith}
-use lib.ListN.{length}
-use Rattle.tag_table.specs.Places.{used}
-use Rattle.tag_table.specs.PlacesLaws.{count_used, step_within, step, end_walked}
-use Rattle.tag_table.proofs.Mapped.{length-mapped}
-use Rattle.tag_table.proofs.end_of.Goals.{Start}
+use Rattle.std.proofs.Common.{◌∙◌, arith, ap}
+use Rattle.tag_table.specs.Places.{finish}
+use Rattle.tag_table.specs.PlacesLaws.{fits_begin, unwalked, walked_fits, walked_next, walked_end}
 use Rattle.tag_table.proofs.end_of.Goals as goal
 
-counted : (s : Start) → length (used s.args.listed) ≡ s.args.listed.count
-counted s = count_used s.args.listed s.requires (search (rules, length-mapped))
+pub begin-place-requires : goal.begin-place-requires
+begin-place-requires c = fits_begin c.args.tags.now c.requires
+
+pub loop-tag-init : goal.loop-tag-init
+loop-tag-init c = unwalked _ _
 
 pub placed-place-requires : goal.placed-place-requires
-placed-place-requires c =
-    omega (arith, c.requires.1, step_within c.args.listed (counted (goal.at.placed-place-requires c).Start) c.loop-i.invariant c.loop-i-test.true c.begin-place.ensures)
+placed-place-requires c = walked_fits c.loop-tag.invariant _ c.loop-tag-test.true c.begin-place.ensures c.requires
 
-pub loop-i-preserved : goal.loop-i-preserved
-loop-i-preserved c =
-    rw c.placed-place.ensures (step c.args.listed (counted (goal.at.loop-i-preserved c).Start) c.loop-i.invariant c.loop-i-test.true)
+pub loop-tag-preserved : goal.loop-tag-preserved
+loop-tag-preserved c = rw c.placed-place.ensures (walked_next c.loop-tag.invariant _ c.loop-tag-test.true)
 
 pub returns : goal.returns
-returns c =
-    end_walked c.args.listed (counted (goal.at.returns c).Start) c.loop-i.invariant c.begin-place.ensures c.loop-i-test.false
+returns c = walked_end c.loop-tag.invariant (omega arith) ∙ ap (λ p. finish p c.args.tags.now) c.begin-place.ensures

@@ -1,2 +1,0 @@
-pub mod Cons
-pub mod Slots
