@@ -1,16 +1,16 @@
-// The reader's answer by value: a refusal number, or the plan in numbers.
+// The reader's answer by value: the plan in numbers.
 
 #![tactic(auto)]
 
 ghost use Rattle.std.specs.Prelude.{◌≡◌};
 ghost use Rattle.reading.specs.Reading as Answers;
 
-use profile::{Cicp, Curve, CurveName, Kind, MAX_LETTERS, Numbers};
+use buffer::Text;
+use profile::{Content, Curve, CurveName, GrayWhite, Kind, MAX_LETTERS, Numbers};
 
-// What the reader answers: a refusal number, or 0 and the plan in numbers. The plan is all zero where the file is refused.
-#[derive(Clone, Copy)]
+// The plan of an accepted file in numbers, as `struct merqyduk_plan` of the C interface has them.
+#[derive(Clone, Copy, Debug, PartialEq, Eq)]
 pub struct Reading {
-    pub refusal: u32,
     pub kind: u32,
     pub intent: u32,
     pub maker: u32,
@@ -26,29 +26,6 @@ pub struct Reading {
     pub columns: [i32; 9],
     pub letters: usize,
     pub text: [u8; MAX_LETTERS],
-}
-
-pub fn refused(number: u32) -> Reading
-    ensures { result ≡ Answers.refused_with number }
-{
-    Reading {
-        refusal: number,
-        kind: 0,
-        intent: 0,
-        maker: 0,
-        model: 0,
-        id_not_computed: 0,
-        curve: 0,
-        gamma: 0,
-        cicp: 0,
-        adapted: 0,
-        white_x: 0,
-        white_z: 0,
-        chad: [0; 9],
-        columns: [0; 9],
-        letters: 0,
-        text: [0; MAX_LETTERS],
-    }
 }
 
 fn kind_number(kind: Kind) -> u32
@@ -72,68 +49,73 @@ fn name_number(name: CurveName) -> u32
     }
 }
 
-fn curve_number(curve: Curve) -> u32
-    ensures { result ≡ Answers.curve_number curve }
+// The number of a curve, and that of its gamma.
+fn curve_numbers(curve: Curve) -> (u32, i32)
+    ensures { (result.0 ≡ Answers.curve_number curve) × (result.1 ≡ Answers.gamma_number curve) }
 {
     match curve {
-        Curve::Named(name) => name_number(name),
-        Curve::Gamma(_) => 6,
+        Curve::Named(name) => (name_number(name), 0),
+        Curve::Gamma(g) => (6, g),
     }
 }
 
-fn gamma_number(curve: Curve) -> i32
-    ensures { result ≡ Answers.gamma_number curve }
-{
-    match curve {
-        Curve::Named(_) => 0,
-        Curve::Gamma(g) => g,
-    }
-}
-
-fn cicp_number(cicp: Cicp) -> u32
+fn cicp_number(cicp: Option<u8>) -> u32
     ensures { result ≡ Answers.cicp_number cicp }
 {
     match cicp {
-        Cicp::Absent => 0,
-        Cicp::Primaries(v) => v as u32,
+        None => 0,
+        Some(v) => u32::from(v),
     }
 }
 
-fn adapted_number(adapted: bool) -> u32
-    ensures { result ≡ Answers.adapted_number adapted }
-{
-    if adapted { 1 } else { 0 }
-}
-
 // The plan in numbers, with its mark: what is not set stays zero.
-pub fn accepted(
-    plan: Numbers,
-    id_not_computed: u32,
-    letters: usize,
-    text: [u8; MAX_LETTERS],
-) -> Reading
-    ensures { result ≡ Answers.accepted_with plan id_not_computed letters text }
+pub fn accepted(plan: Numbers, id_not_computed: bool, text: Text<MAX_LETTERS>) -> Reading
+    ensures { result ≡ Answers.accepted_with plan id_not_computed text.len text.bytes }
 {
-    let kind = plan.kind;
-    let curve = plan.curve;
-    let cicp = plan.cicp;
-    let chad = plan.chad;
-    let columns = plan.columns;
-    let mut r = refused(0);
-    r.kind = kind_number(kind);
-    r.intent = plan.intent;
-    r.maker = plan.maker;
-    r.model = plan.model;
-    r.id_not_computed = id_not_computed;
-    r.curve = curve_number(curve);
-    r.gamma = gamma_number(curve);
-    r.cicp = cicp_number(cicp);
-    r.adapted = adapted_number(plan.adapted);
-    r.white_x = plan.white_x;
-    r.white_z = plan.white_z;
-    r.chad = chad;
-    r.columns = columns;
-    r.letters = letters;
-    r.text = text;
+    let Text { bytes, len } = text;
+    let mut r = Reading {
+        kind: kind_number(plan.content.kind()),
+        intent: plan.intent,
+        maker: plan.maker,
+        model: plan.model,
+        id_not_computed: u32::from(id_not_computed),
+        curve: 0,
+        gamma: 0,
+        cicp: 0,
+        adapted: 0,
+        white_x: 0,
+        white_z: 0,
+        chad: [0; 9],
+        columns: [0; 9],
+        letters: len,
+        text: bytes,
+    };
+    match plan.content {
+        Content::Gray { curve, white } => {
+            (r.curve, r.gamma) = curve_numbers(curve);
+            match white {
+                GrayWhite::Unadapted { x, z } => {
+                    r.white_x = x;
+                    r.white_z = z;
+                }
+                GrayWhite::Adapted(m) => {
+                    r.adapted = 1;
+                    r.chad = m;
+                }
+            }
+        }
+        Content::Rgb {
+            curve,
+            cicp,
+            chad,
+            columns,
+        } => {
+            (r.curve, r.gamma) = curve_numbers(curve);
+            r.cicp = cicp_number(cicp);
+            r.chad = chad;
+            r.columns = columns;
+        }
+        Content::Xyb => {}
+    }
     r
 }
