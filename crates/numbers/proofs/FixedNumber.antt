@@ -9,12 +9,11 @@ use native.Mathlib.Omega.{arith}
 use lib.Dec.{T, leb, ltb, eqb, leb→le, le→leb, lit<, ltb→lt, nltb→le, eqb→eq, eqb_refl}
 use lib.Pow.{pow-add, pow_pos, pow_mono, shl_lt, shl_exact}
 use lib.IntN.{ℤ, pos, neg_ℤ, ◌-ℤ◌, +ℤ_idl}
-use Rattle.std.specs.Prelude.{Some, None}
+use Rattle.std.specs.Prelude.{None}
 use lib.Ieee.{Float, nan, inf, fin, binary32, up, down, fits, of_fields, to_bits, is_nan}
 use lib.Ieee.Fits.{down_pos}
 use lib.Ieee.Exact.{HasValue}
 use lib.Ieee.Bits.{to_bits-lt}
-use lib.Ieee.Compare.{differs_from_itself}
 use borrow.Author.Tests.{le-leb, lt-leb, ne_eqb}
 use mir.Syntax.{w32}
 use mir.Val.{SFits, to_z, of_z}

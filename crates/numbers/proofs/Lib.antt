@@ -1,2 +1,1 @@
 mod FixedNumber
-mod TwosComplement

@@ -1,5 +1,5 @@
 -- Bytes put into zeros, past which a byte counts 0. Assumes nothing.
-use Rattle.std.proofs.Common.{ℕ, ◌≡◌, ◌+◌, ◌-◌, List, [], ◌∷◌, ◌++◌, zero, suc, refl, get_or, length, ◌∙◌, get_or-drop, ap}
+use Rattle.std.proofs.Common.{ℕ, ◌≡◌, List, [], ◌∷◌, ◌++◌, zero, suc, refl, get_or, ◌∙◌, get_or-drop}
 use Rattle.buffer.specs.Bytes.{zeros}
 use Rattle.buffer.specs.BufferLaws.{put_front}
 use Rattle.words.specs.WordsLaws.{from_on}

@@ -1,5 +1,4 @@
 -- The library's bytes are those of the definition. Assumes nothing.
-use Rattle.std.proofs.Common.{refl}
 use Rattle.words.specs.Words.{be32}
 use Rattle.words.proofs.put_u32_be.Goals as goal
 

@@ -1,5 +1,5 @@
 -- Each byte of the word is that of its place. Assumes nothing.
-use Rattle.std.proofs.Common.{ℕ, ◌≡◌, ◌<◌, refl, lit<, get_or, get_or-drop, drop, sym, ◌∙◌}
+use Rattle.std.proofs.Common.{ℕ, ◌≡◌, ◌<◌, lit<, get_or, get_or-drop, drop, sym, ◌∙◌}
 use Rattle.words.specs.Words.{word16}
 use Rattle.words.proofs.read_u16_be.Goals as goal
 

@@ -11,7 +11,6 @@ use mir.ValLaws.{to_z-of_z}
 use Rattle.numbers.specs.Fixed.{some_number, whole_fraction}
 use Rattle.numbers.proofs.FixedNumber.{nan-refused, b_lt, digits_lt, scaled_of, refused_far, refused_near, kept}
 use Rattle.floats.specs.Fields.{significand}
-use Rattle.floats.specs.FieldsLaws.{equals_itself}
 use Rattle.numbers.proofs.fixed.to_s15_fixed_16.Goals.{After-exponent-k, After-scaled-n, Start}
 use Rattle.numbers.proofs.fixed.to_s15_fixed_16.Goals as goal
 
@@ -40,20 +39,22 @@ module _ (c : After-scaled-n) where
   number = c.scaled-n.ensures.0 ∙ ap₂ (λ (q k : ℕ). scaled_of q k) c.significand-q.ensures c.exponent-k.ensures
 
 pub returns-then-is_nan : goal.returns-then-is_nan
-returns-then-is_nan c = nan-refused (x (goal.at.returns-then-is_nan c).Start) (sym c.is_nan.ensures.value ∙ c.if-is_nan.true)
+returns-then-is_nan c = nan-refused c.args.value (sym c.is_nan.ensures.value ∙ c.if-is_nan.true)
 
 pub overflow_cast-b : goal.overflow_cast-b
-overflow_cast-b c = omega (arith, b_lt (x (goal.at.overflow_cast-b c).Start) (held (goal.at.overflow_cast-b c).Start))
+overflow_cast-b c = omega (arith, b_lt c.args.value (held (goal.at.overflow_cast-b c).Start))
 
 pub returns-then-field-gt141 : goal.returns-then-field-gt141
-returns-then-field-gt141 c = refused_far (x (goal.at.returns-then-field-gt141 c).Start) (held (goal.at.returns-then-field-gt141 c).Start) c.if-field-gt141.true
+returns-then-field-gt141 c = refused_far c.args.value (held (goal.at.returns-then-field-gt141 c).Start) c.if-field-gt141.true
 
 pub returns-then-n : goal.returns-then-n
 returns-then-n c =
-    refused_near (x (start (goal.at.returns-then-n c).After-scaled-n)) (held (start (goal.at.returns-then-n c).After-scaled-n)) c.if-field-gt141.false c.scaled-n.result (number (goal.at.returns-then-n c).After-scaled-n) c.if-n.true
+    let s = (goal.at.returns-then-n c).After-scaled-n in
+    refused_near c.args.value (held (start s)) c.if-field-gt141.false c.scaled-n.result (number s) c.if-n.true
 
 pub returns : goal.returns
 returns c =
+    let s = (goal.at.returns c).After-scaled-n in
     let told = c.is_whole.ensures ∙ ap₂ (λ (q k : ℕ). whole_fraction (q * 2 ^ k) (2 ^ 149)) c.significand-q.ensures c.exponent-k.ensures in
     ap (λ (z : ℤ). some_number z c.is_whole.result) (to_z-of_z w32 c.with_sign.result (record { sfits = c.with_sign.type_inv }) ∙ c.with_sign.ensures)
-    ∙ kept (x (start (goal.at.returns c).After-scaled-n)) (held (start (goal.at.returns c).After-scaled-n)) c.if-field-gt141.false c.scaled-n.result (number (goal.at.returns c).After-scaled-n) c.if-n.false told
+    ∙ kept c.args.value (held (start s)) c.if-field-gt141.false c.scaled-n.result (number s) c.if-n.false told
