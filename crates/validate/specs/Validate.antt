@@ -1,6 +1,7 @@
 -- `validate_icc_matrix` of api/color.rs: whether the floats of an encoding's white and matrices lie in the range of a fixed number. The Rust has
 -- one error for every float out of range; 01 tells 5 and 7 apart. Assumes nothing.
-use Rattle.std.specs.Prelude.{ℕ, Bool, true, false, ◌&&◌, ◌||◌, cond, List, [], ◌∷◌, eqb, Float}
+use Rattle.std.specs.Prelude.{ℕ, Bool, false, ◌&&◌, ◌||◌, cond, List, [], ◌∷◌, eqb, Float, Result, Ok, Err}
+use Rattle.std.specs.List.{list_all}
 use Rattle.std.specs.Float.{binary32}
 use Rattle.std.specs.Float.Ieee.{of_bits, le}
 use Rattle.linalg.specs.Linalg.{rows}
@@ -13,8 +14,8 @@ use Rattle.white_point.specs.GrayWhite.{cie_xyz_from_white_cie_xy}
 use Rattle.adaptation.specs.Adapt.{chad_matrix}
 use Rattle.colorimetry.specs.Primaries.{create_icc_rgb_matrix}
 use Rattle.buffer.specs.Checked.{Checked, is, refused, then}
-use Rattle.validate.specs.declared.Validation.{Validation}
-use Rattle.validate.specs.declared.Validation.TheVariants.{Valid, InvalidWhitePointY, InvalidWhitePoint, MatrixInversionFailed, ValueOutOfRange}
+use Rattle.validate.specs.declared.ValidationError.{ValidationError}
+use Rattle.validate.specs.declared.ValidationError.TheVariants.{InvalidWhitePointY, InvalidWhitePoint, MatrixInversionFailed, ValueOutOfRange}
 
 -- ---- the tests, in their order, by the numbers of 01's refusal list
 
@@ -23,8 +24,7 @@ abbrev pub is_s15_fixed_16 : Float → Bool
 is_s15_fixed_16 v = le (of_bits binary32 0xc6ff_fffd) v && le v (of_bits binary32 0x46ff_fffd)
 
 abbrev pub all_s15_fixed_16 : List Float → Bool
-all_s15_fixed_16 [] = true
-all_s15_fixed_16 (v ∷ vs) = is_s15_fixed_16 v && all_s15_fixed_16 vs
+all_s15_fixed_16 vs = list_all is_s15_fixed_16 vs
 
 -- the refusal n where one of the floats is out of range
 abbrev pub in_range_or : ℕ → List Float → Checked (Unit {0})
@@ -46,30 +46,34 @@ in_range (XYB i) = is tt
 
 -- ---- the answer
 
+abbrev pub Answer : Type 0
+Answer = Result (Unit {0}) ValidationError
+
 -- the numbers of 01's refusal list that an answer stands for
-abbrev pub refusals : Validation → List ℕ
-refusals Valid = []
-refusals InvalidWhitePointY = 3 ∷ []
-refusals InvalidWhitePoint = 4 ∷ []
-refusals MatrixInversionFailed = 6 ∷ []
-refusals ValueOutOfRange = 5 ∷ 7 ∷ []
+abbrev pub refusals : Answer → List ℕ
+refusals (Ok u) = []
+refusals (Err InvalidWhitePointY) = 3 ∷ []
+refusals (Err InvalidWhitePoint) = 4 ∷ []
+refusals (Err MatrixInversionFailed) = 6 ∷ []
+refusals (Err ValueOutOfRange) = 5 ∷ 7 ∷ []
 
 abbrev among : ℕ → List ℕ → Bool
 among n [] = false
 among n (k ∷ ks) = eqb n k || among n ks
 
-abbrev pub stands_for : Validation → ℕ → Bool
-stands_for v n = among n (refusals v)
+abbrev pub stands_for : Answer → ℕ → Bool
+stands_for a n = among n (refusals a)
 
--- the answer that stands for a number
-abbrev pub error_at : ℕ → Validation
+-- the error that stands for a number
+abbrev pub error_at : ℕ → ValidationError
 error_at n =
-    cond (stands_for InvalidWhitePointY n) InvalidWhitePointY
-    (cond (stands_for InvalidWhitePoint n) InvalidWhitePoint (cond (stands_for MatrixInversionFailed n) MatrixInversionFailed ValueOutOfRange))
+    cond (stands_for (Err InvalidWhitePointY) n) InvalidWhitePointY
+    (cond (stands_for (Err InvalidWhitePoint) n) InvalidWhitePoint
+    (cond (stands_for (Err MatrixInversionFailed) n) MatrixInversionFailed ValueOutOfRange))
 
-abbrev pub validation : Checked (Unit {0}) → Validation
-validation (is _) = Valid
-validation (refused n) = error_at n
+abbrev pub validation : Checked (Unit {0}) → Answer
+validation (is u) = Ok u
+validation (refused n) = Err (error_at n)
 
-abbrev pub validate_icc_matrix : JxlColorEncoding → Validation
+abbrev pub validate_icc_matrix : JxlColorEncoding → Answer
 validate_icc_matrix e = validation (in_range e)

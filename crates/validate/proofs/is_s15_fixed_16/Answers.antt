@@ -1,13 +1,13 @@
--- `is_s15_fixed_16` meets its contract by its tests; the lower bound is the upper one negated, computed.
-use mathlib.Core.Path.{◌≡◌, sym, ◌∙◌}
-use mathlib.Core.Bool.{true, false}
-use lib.Ieee.{binary32, of_bits, neg, le}
+-- The lower bound is the upper one negated, computed.
+use Rattle.std.proofs.Common.{◌≡◌, refl}
+use Rattle.std.specs.Float.{binary32}
+use Rattle.std.specs.Float.Ieee.{of_bits, neg}
+use Rattle.floats.specs.Contains.{partial_le_is}
 use Rattle.validate.proofs.is_s15_fixed_16.Goals as goal
 
-pub returns-then-value : goal.returns-then-value
+lower : neg (of_bits binary32 0x46ff_fffd) ≡ of_bits binary32 0xc6ff_fffd
 unfolding of_bits neg
-returns-then-value c = let t : le (of_bits binary32 0xc6ff_fffd) c.args.value ≡ true = c.if-value.true in simp t
+lower = refl
 
-pub returns-else-value : goal.returns-else-value
-unfolding of_bits neg
-returns-else-value c = let t : le (of_bits binary32 0xc6ff_fffd) c.args.value ≡ false = c.if-value.false in t ∙ sym (simp t)
+pub returns : goal.returns
+returns c = simp (c.new.ensures.start, c.new.ensures.end, c.new.ensures.exhausted, partial_le_is, lower) at c.contains.ensures.value
