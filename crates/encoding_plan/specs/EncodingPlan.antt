@@ -1,7 +1,8 @@
 -- An encoding with maker and model (02, order 6) and the mark "adapted" of gray (02, order 9), and its plan. Assumes nothing.
 use Rattle.std.specs.Prelude.{ℕ, Bool, false}
 use Rattle.buffer.specs.Checked.{Checked, is, then}
-use Rattle.numbers.specs.Rounded.{Counted, counted}
+use Rattle.numbers.specs.declared.fixed.Counted.{Counted}
+use Rattle.numbers.specs.Rounded.{counted}
 use Rattle.color_encoding.specs.declared.JxlColorEncoding.{JxlColorEncoding}
 use Rattle.profile.specs.Plan.{Plan, with_device}
 use Rattle.encoding_plan.specs.PlanOf.{color_plan}

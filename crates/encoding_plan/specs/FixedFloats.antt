@@ -8,7 +8,8 @@ use Rattle.color_encoding.specs.declared.WhiteXy.{WhiteXy}
 use Rattle.color_encoding.specs.declared.JxlTransferFunction.{JxlTransferFunction}
 use Rattle.color_encoding.specs.declared.JxlColorEncoding.{JxlColorEncoding}
 use Rattle.color_encoding.specs.declared.JxlColorEncoding.TheVariants.{RgbColorSpace, GrayscaleColorSpace, XYB}
-use Rattle.numbers.specs.Rounded.{Counted, counted}
+use Rattle.numbers.specs.declared.fixed.Counted.{Counted}
+use Rattle.numbers.specs.Rounded.{counted}
 use Rattle.xyb_constants.specs.XybNumbers as Xyb
 use Rattle.profile.specs.Plan.{Plan}
 use Rattle.profile.specs.FixedConstants.{d50_floats}

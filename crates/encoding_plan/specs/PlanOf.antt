@@ -1,7 +1,7 @@
 -- The plan of a color encoding, with or without the mark "adapted" that gray encodings may have (02, order 9), or the first of refusals 1 and 3 to 8 (01, "Words of
 -- demand 3" and the refusal list). Its maker and model are zero: EncodingPlan has the plan of an encoding with these two. It never has the mark "id not
 -- computed" (02, order 7). Assumes nothing.
-use Rattle.std.specs.Prelude.{Bool, true, false, List, ℤ}
+use Rattle.std.specs.Prelude.{ℕ, Option, Bool, true, false, List, ℤ}
 use Rattle.color_encoding.specs.Intent.{intent_number}
 use Rattle.color_encoding.specs.Coordinates.{white_xy, primaries_xy}
 use Rattle.color_encoding.specs.declared.WhiteXy.{WhiteXy}
@@ -9,9 +9,10 @@ use Rattle.color_encoding.specs.declared.RenderingIntent.{RenderingIntent}
 use Rattle.color_encoding.specs.declared.JxlColorEncoding.{JxlColorEncoding}
 use Rattle.color_encoding.specs.declared.JxlColorEncoding.TheVariants.{RgbColorSpace, GrayscaleColorSpace, XYB}
 use Rattle.text.specs.Description.{description}
-use Rattle.profile.specs.Plan.{Plan, GrayWhite, unadapted, adapted, gray, rgb, xyb, plain_plan}
+use Rattle.profile.specs.Plan.{Plan, gray, rgb, xyb, plain_plan}
+use Rattle.profile.specs.declared.GrayWhite.{GrayWhite}
+use Rattle.profile.specs.declared.GrayWhite.TheVariants.{Unadapted as unadapted, Adapted as adapted}
 use Rattle.profile.specs.declared.Curve.{Curve}
-use Rattle.profile.specs.declared.Cicp.{Cicp}
 use Rattle.buffer.specs.Checked.{Checked, is, then}
 pub use Rattle.encoding_curve.specs.CurveOf.{supported, curve_of, cicp_pair, cicp_of}
 pub use Rattle.encoding_numbers.specs.NumbersOf.{gray_numbers, chad_numbers, column_numbers}
@@ -28,7 +29,7 @@ gray_white false w = then (gray_numbers w) (λ xz. is (unadapted xz.0 xz.1))
 abbrev pub gray_plan : JxlColorEncoding → RenderingIntent → Curve → GrayWhite → Plan
 gray_plan e i c w = plain_plan (intent_number i) (gray (record { text = description e; curve = c; white = w }))
 
-abbrev pub rgb_plan : JxlColorEncoding → RenderingIntent → Curve → Cicp → List ℤ → List ℤ → Plan
+abbrev pub rgb_plan : JxlColorEncoding → RenderingIntent → Curve → Option ℕ → List ℤ → List ℤ → Plan
 rgb_plan e i c v m k =
     plain_plan (intent_number i) (rgb (record { text = description e; curve = c; chad = m; columns = k; cicp = v }))
 

@@ -6,7 +6,7 @@ use Rattle.color_encoding.specs.declared.JxlWhitePoint.{JxlWhitePoint}
 use Rattle.color_encoding.specs.declared.JxlPrimaries.{JxlPrimaries}
 use Rattle.color_encoding.specs.declared.JxlTransferFunction.{JxlTransferFunction}
 use Rattle.color_encoding.specs.declared.JxlColorEncoding.TheVariants.{RgbColorSpace, GrayscaleColorSpace}
-use Rattle.profile.specs.Plan.{GrayWhite}
+use Rattle.profile.specs.declared.GrayWhite.{GrayWhite}
 use Rattle.profile.specs.declared.Curve.{Curve}
 use Rattle.buffer.specs.Checked.{is, refused}
 use Rattle.encoding_plan.specs.PlanOf.{supported, curve_of, gray_white, chad_numbers, column_numbers, cicp_of, gray_plan, rgb_plan, color_plan}

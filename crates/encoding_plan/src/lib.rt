@@ -3,21 +3,24 @@
 #![tactic(auto)]
 
 ghost use Rattle.std.specs.Prelude.{◌≡◌, Bool};
+ghost use Rattle.buffer.specs.Checked.{is};
 ghost use Rattle.encoding_plan.specs.EncodingPlan.{plain_encoding};
 ghost use Rattle.encoding_plan.specs.PlanOf.{gray_white};
 ghost use Rattle.encoding_plan.specs.FixedFloats.{white_floats, counted_color_plan};
-ghost use Rattle.encoding_plan.specs.Answers.{checked_white, checked_plan};
+ghost use Rattle.encoding_plan.specs.Answers.{described};
 ghost use Rattle.numbers.specs.Rounded.{counted};
+ghost use Rattle.refusals.specs.Refusals.{checked};
 
 use color_encoding::{
     JxlColorEncoding, JxlPrimaries, JxlTransferFunction, JxlWhitePoint, RenderingIntent, WhiteXy,
 };
-use encoding_curve::{CurveAnswer, Support};
-use profile::Numbers;
+use numbers::Counted;
+use profile::{Content, GrayWhite, Numbers};
+use refusals::Refusal;
 
 // An encoding: the color encoding, the device's manufacturer and model for the header of its profile, four bytes each, the first the most
 // significant, and the mark: whether the white of gray is adapted to D50. Of RGB and XYB, whose white always is, the mark says nothing.
-#[derive(Clone, Copy)]
+#[derive(Clone, Copy, Debug)]
 pub struct Encoding {
     pub color: JxlColorEncoding,
     pub maker: u32,
@@ -26,14 +29,16 @@ pub struct Encoding {
 }
 
 // An encoding with maker and model zero and without the mark, as job entries and typed texts mean it.
-pub fn plain_encoding(color: JxlColorEncoding) -> Encoding
-    ensures { result ≡ plain_encoding color }
-{
-    Encoding {
-        color,
-        maker: 0,
-        model: 0,
-        adapted: false,
+impl From<JxlColorEncoding> for Encoding {
+    ghost from_gives = { λ color e. e ≡ plain_encoding color };
+
+    fn from(color: JxlColorEncoding) -> Encoding {
+        Encoding {
+            color,
+            maker: 0,
+            model: 0,
+            adapted: false,
+        }
     }
 }
 
@@ -43,58 +48,24 @@ const D50_ROUNDED: u32 = 2;
 
 const XYB_ROUNDED: u32 = 28;
 
-// A plan but for its text and how many of its fixed numbers were rounded, or its refusal, which is 0 where there is none; a refused plan and
-// its count mean nothing.
-#[derive(Clone, Copy)]
-pub struct EncodingPlan {
-    pub refusal: u32,
-    pub plan: Numbers,
-    pub rounded: u32,
-}
-
-fn refused(number: u32) -> EncodingPlan
-    ensures { result.refusal ≡ number }
-{
-    let plan = profile::xyb_numbers(0);
-    EncodingPlan {
-        refusal: number,
-        plan,
-        rounded: 0,
-    }
-}
-
-// The white of a gray plan, X and Z or, adapted, `chad`, and how many of its fixed numbers were rounded; or its refusal, which is 0 where there is none.
-#[derive(Clone, Copy)]
-pub struct WhiteNumbers {
-    pub refusal: u32,
-    pub x: i32,
-    pub z: i32,
-    pub chad: [i32; 9],
-    pub rounded: u16,
-}
-
-fn white_numbers(white: WhiteXy, adapted: bool) -> WhiteNumbers
-    ensures { checked_white adapted result ≡ counted (white_floats adapted white) (gray_white adapted white) }
+// The white of a gray plan, and how many of its fixed numbers were rounded.
+fn white_numbers(white: WhiteXy, adapted: bool) -> Result<Counted<GrayWhite>, Refusal>
+    ensures { checked result ≡ counted (white_floats adapted white) (gray_white adapted white) }
 {
     if adapted {
-        let chad = encoding_numbers::chad_numbers(white);
-        let values = chad.values;
-        return WhiteNumbers {
-            refusal: chad.refusal,
-            x: 0,
-            z: 0,
-            chad: values,
-            rounded: D50_ROUNDED as u16 + chad.rounded as u16,
-        };
+        let chad = encoding_numbers::chad_numbers(white)?;
+        let values = chad.value;
+        return Ok(Counted {
+            value: GrayWhite::Adapted(values),
+            rounded: D50_ROUNDED + chad.rounded,
+        });
     }
-    let numbers = encoding_numbers::gray_numbers(white);
-    WhiteNumbers {
-        refusal: numbers.refusal,
-        x: numbers.x,
-        z: numbers.z,
-        chad: [0; 9],
-        rounded: numbers.rounded as u16,
-    }
+    let numbers = encoding_numbers::gray_numbers(white)?;
+    let (x, z) = numbers.value;
+    Ok(Counted {
+        value: GrayWhite::Unadapted { x, z },
+        rounded: numbers.rounded,
+    })
 }
 
 fn gray_plan(
@@ -102,37 +73,20 @@ fn gray_plan(
     transfer: JxlTransferFunction,
     intent: RenderingIntent,
     adapted: bool,
-) -> EncodingPlan
-    ensures { checked_plan result (JxlColorEncoding.GrayscaleColorSpace white transfer intent) ≡ counted_color_plan adapted (JxlColorEncoding.GrayscaleColorSpace white transfer intent) }
+) -> Result<Counted<Numbers>, Refusal>
+    ensures { described (JxlColorEncoding.GrayscaleColorSpace white transfer intent) (checked result) ≡ counted_color_plan adapted (JxlColorEncoding.GrayscaleColorSpace white transfer intent) }
 {
-    match encoding_curve::supported(transfer) {
-        Support::Unsupported => refused(1),
-        Support::Curve(named_or_gamma) => {
-            let numbers = white_numbers(white.to_xy_coords(), adapted);
-            if numbers.refusal != 0 {
-                return refused(numbers.refusal);
-            }
-            match encoding_curve::curve_of(named_or_gamma) {
-                CurveAnswer::OutOfRange => refused(8),
-                CurveAnswer::Curve { curve, rounded } => {
-                    let chad = numbers.chad;
-                    let plan = profile::gray_numbers(
-                        intent.number(),
-                        curve,
-                        adapted,
-                        numbers.x,
-                        numbers.z,
-                        chad,
-                    );
-                    EncodingPlan {
-                        refusal: 0,
-                        plan,
-                        rounded: numbers.rounded as u32 + rounded as u32,
-                    }
-                }
-            }
-        }
-    }
+    let named_or_gamma = encoding_curve::supported(transfer)?;
+    let numbers = white_numbers(white.to_xy_coords(), adapted)?;
+    let curve = encoding_curve::curve_of(named_or_gamma)?;
+    let content = Content::Gray {
+        curve: curve.value,
+        white: numbers.value,
+    };
+    Ok(Counted {
+        value: Numbers::plain(intent.number(), content),
+        rounded: numbers.rounded + curve.rounded,
+    })
 }
 
 fn rgb_plan(
@@ -140,64 +94,42 @@ fn rgb_plan(
     primaries: JxlPrimaries,
     transfer: JxlTransferFunction,
     intent: RenderingIntent,
-) -> EncodingPlan
-    ensures { (adapted : Bool) → checked_plan result (JxlColorEncoding.RgbColorSpace white primaries transfer intent) ≡ counted_color_plan adapted (JxlColorEncoding.RgbColorSpace white primaries transfer intent) }
+) -> Result<Counted<Numbers>, Refusal>
+    ensures { (adapted : Bool) → described (JxlColorEncoding.RgbColorSpace white primaries transfer intent) (checked result) ≡ counted_color_plan adapted (JxlColorEncoding.RgbColorSpace white primaries transfer intent) }
 {
-    match encoding_curve::supported(transfer) {
-        Support::Unsupported => refused(1),
-        Support::Curve(named_or_gamma) => {
-            let white_xy = white.to_xy_coords();
-            let chad = encoding_numbers::chad_numbers(white_xy);
-            if chad.refusal != 0 {
-                return refused(chad.refusal);
-            }
-            let columns = encoding_numbers::column_numbers(primaries.to_xy_coords(), white_xy);
-            if columns.refusal != 0 {
-                return refused(columns.refusal);
-            }
-            match encoding_curve::curve_of(named_or_gamma) {
-                CurveAnswer::OutOfRange => refused(8),
-                CurveAnswer::Curve { curve, rounded } => {
-                    let cicp = encoding_curve::cicp_of(white, primaries, curve);
-                    let chad_values = chad.values;
-                    let column_values = columns.values;
-                    let plan = profile::rgb_numbers(
-                        intent.number(),
-                        curve,
-                        cicp,
-                        chad_values,
-                        column_values,
-                    );
-                    EncodingPlan {
-                        refusal: 0,
-                        plan,
-                        rounded: D50_ROUNDED
-                            + chad.rounded as u32
-                            + columns.rounded as u32
-                            + rounded as u32,
-                    }
-                }
-            }
-        }
-    }
+    let named_or_gamma = encoding_curve::supported(transfer)?;
+    let white_xy = white.to_xy_coords();
+    let chad = encoding_numbers::chad_numbers(white_xy)?;
+    let columns = encoding_numbers::column_numbers(primaries.to_xy_coords(), white_xy)?;
+    let curve = encoding_curve::curve_of(named_or_gamma)?;
+    let chad_numbers = chad.value;
+    let column_numbers = columns.value;
+    let content = Content::Rgb {
+        curve: curve.value,
+        cicp: encoding_curve::cicp_of(white, primaries, curve.value),
+        chad: chad_numbers,
+        columns: column_numbers,
+    };
+    Ok(Counted {
+        value: Numbers::plain(intent.number(), content),
+        rounded: D50_ROUNDED + chad.rounded + columns.rounded + curve.rounded,
+    })
 }
 
 // XYB has a plan of each intent, and is never refused.
-fn xyb_plan(intent: RenderingIntent) -> EncodingPlan
-    ensures { (adapted : Bool) → checked_plan result (JxlColorEncoding.XYB intent) ≡ counted_color_plan adapted (JxlColorEncoding.XYB intent) }
+fn xyb_plan(intent: RenderingIntent) -> Counted<Numbers>
+    ensures { (adapted : Bool) → described (JxlColorEncoding.XYB intent) (is result) ≡ counted_color_plan adapted (JxlColorEncoding.XYB intent) }
 {
     let number = intent.number();
-    let plan = profile::xyb_numbers(number);
-    EncodingPlan {
-        refusal: 0,
-        plan,
+    Counted {
+        value: Numbers::plain(number, Content::Xyb),
         rounded: D50_ROUNDED + XYB_ROUNDED,
     }
 }
 
-// Maker and model are zero.
-pub fn plan_of(encoding: JxlColorEncoding, adapted: bool) -> EncodingPlan
-    ensures { checked_plan result encoding ≡ counted_color_plan adapted encoding }
+// Maker and model are zero. The plan's text is the encoding's description.
+pub fn plan_of(encoding: JxlColorEncoding, adapted: bool) -> Result<Counted<Numbers>, Refusal>
+    ensures { described encoding (checked result) ≡ counted_color_plan adapted encoding }
 {
     match encoding {
         JxlColorEncoding::RgbColorSpace {
@@ -211,6 +143,6 @@ pub fn plan_of(encoding: JxlColorEncoding, adapted: bool) -> EncodingPlan
             transfer_function,
             rendering_intent,
         } => gray_plan(white_point, transfer_function, rendering_intent, adapted),
-        JxlColorEncoding::XYB { rendering_intent } => xyb_plan(rendering_intent),
+        JxlColorEncoding::XYB { rendering_intent } => Ok(xyb_plan(rendering_intent)),
     }
 }

@@ -1,6 +1,5 @@
 -- `xyb_plan` meets its contract: the numbers are those of the intent, and the count is the same for each.
-use Prim.Native.Nat.{ℕ}
-use mathlib.Core.Path.{◌≡◌, sym, ap}
+use Rattle.std.proofs.Common.{ℕ, ◌≡◌, sym, ap}
 use Rattle.buffer.specs.Checked.{is}
 use Rattle.color_encoding.specs.declared.JxlColorEncoding.TheVariants.{XYB}
 use Rattle.profile.specs.Plan.{xyb, plain_plan}
@@ -14,4 +13,4 @@ unfolding color_plan
 returns c adapted =
     let i = c.args.intent in
     let planned : color_plan adapted (XYB i) ≡ is (plain_plan c.number-number.result xyb) = ap (λ (n : ℕ). is (plain_plan n xyb)) (sym c.number-number.ensures) in
-    rw c.xyb_numbers-plan.ensures (planned_as adapted (XYB i) planned (sym (xyb_count adapted i)))
+    rw c.plain.ensures (planned_as adapted (XYB i) planned (sym (xyb_count adapted i)))
