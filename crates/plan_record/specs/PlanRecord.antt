@@ -45,7 +45,6 @@ plan_record r = le32s (record_numbers r) ++ r.text
 abbrev pub reading_of : List ℕ → List ℕ → Reading
 reading_of numbers text =
     record {
-      refusal = 0;
       kind = get_or numbers 0 0;
       intent = get_or numbers 1 0;
       maker = get_or numbers 2 0;

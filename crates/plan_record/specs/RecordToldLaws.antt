@@ -1,5 +1,5 @@
 -- What a struct can hold is read back from its bytes, and it can hold every plan. Assumes nothing.
-use Rattle.std.specs.Prelude.{ℕ, ◌+◌, ◌*◌, ◌≤◌, ◌≡◌, refl, Bool, true, false, cond, ℤ, pos, length, take, drop, replicate}
+use Rattle.std.specs.Prelude.{ℕ, ◌+◌, ◌*◌, ◌≤◌, ◌≡◌, refl, Bool, true, false, cond, ℤ, pos, length, take, drop, Option, Some, None}
 use Rattle.std.proofs.Math.Path.{ap, ap₂, sym}
 use Rattle.std.proofs.Common.{◌∙◌, inl, inr, arith, lit<, length-append, drop_at, SFits}
 use mathlib.Core.List.{List, [], ◌∷◌, ◌++◌, append_assoc, map}
@@ -7,25 +7,26 @@ use Rattle.std.proofs.Math.ListN.{get_or}
 use Rattle.std.proofs.lemmas.List.{length-map, length-replicate}
 use Rattle.std.proofs.Math.Seq.{take_at, get_or_at}
 use Rattle.std.specs.Int.{w32}
+use Rattle.buffer.specs.Checked.{is, value_or}
 use Rattle.buffer.specs.All.{All, none, more}
 use Rattle.buffer.specs.AllLaws.{All-append, All-map, All-replicate}
 use Rattle.words.specs.Words.{twos_complement32, signed32}
 use Rattle.words.specs.WordsLaws.{twos_complement32_lt, signed32_twos_complement32}
-use Rattle.profile.specs.Plan.{Plan, GrayWhite, unadapted, adapted, Content, gray, rgb, xyb, GoodCicp, GoodWhite, GoodContent, GoodCurve, GoodIntent, Valid, max_letters}
-use Rattle.profile.specs.Numbers.{white_x_of, white_z_of, white_chad, numbers_for, numbers_of, text_for, text_of}
+use Rattle.profile.specs.Plan.{Plan, Content, gray, rgb, xyb, GoodCicp, GoodWhite, GoodContent, GoodCurve, Valid, max_letters}
+use Rattle.profile.specs.Numbers.{kind_of, content_of, text_for, text_of}
 use Rattle.profile.specs.declared.Kind.{Kind}
-use Rattle.profile.specs.declared.Kind.TheVariants.{Gray, Rgb, Xyb}
+use Rattle.profile.specs.declared.Kind.TheVariants as Kinds
 use Rattle.profile.specs.declared.CurveName.{CurveName}
 use Rattle.profile.specs.declared.CurveName.TheVariants as Name
 use Rattle.profile.specs.declared.Curve.{Curve}
 use Rattle.profile.specs.declared.Curve.TheVariants.{Named, Gamma}
-use Rattle.profile.specs.declared.Cicp.{Cicp}
-use Rattle.profile.specs.declared.Cicp.TheVariants.{Absent, Primaries}
+use Rattle.profile.specs.declared.GrayWhite.{GrayWhite}
+use Rattle.profile.specs.declared.GrayWhite.TheVariants.{Unadapted, Adapted}
 use Rattle.reader_spec.specs.RefusalList.{Answer, refused, accepted}
 use Rattle.reader_spec.specs.Read.{read}
 use Rattle.reader_spec.proofs.Accepts.{accepts_exactly}
 use Rattle.reader_spec.specs.FileLaws.{valid_wide}
-use Rattle.reading.specs.Reading.{kind_number, name_number, curve_number, gamma_number, cicp_number, text_array, reading}
+use Rattle.reading.specs.Reading.{kind_number, name_number, curve_number, gamma_number, cicp_number, nine_zeros, adapted_of, x_of, z_of, chad_of, told, text_array, plan_reading, reading}
 use Rattle.reading.specs.declared.Reading.{Reading}
 use Rattle.plan_record.specs.PlanRecord.{le32s, number_count, record_numbers, plan_record, reading_of, reading_by}
 use Rattle.plan_record.specs.PlanRecordLaws.{Word, length-le32s, length-numbers, words_back, signeds_back}
@@ -37,7 +38,6 @@ pub record Nine (zs : List ℤ) : Type 0 where
 
 -- what the struct can hold
 pub record Held (r : Reading) : Type 0 where
-  pub accepted : r.refusal ≡ 0
   pub kind : Word r.kind
   pub intent : Word r.intent
   pub maker : Word r.maker
@@ -114,7 +114,6 @@ module _ (r : Reading) (h : Held r) where
   numbers_told =
       λ j.
       record {
-        refusal = sym h.accepted j;
         kind = r.kind;
         intent = r.intent;
         maker = r.maker;
@@ -149,9 +148,9 @@ mark_word true = lit< tt
 mark_word false = lit< tt
 
 kind_word : (k : Kind) → Word (kind_number k)
-kind_word Gray = lit< tt
-kind_word Rgb = lit< tt
-kind_word Xyb = lit< tt
+kind_word Kinds.Gray = lit< tt
+kind_word Kinds.Rgb = lit< tt
+kind_word Kinds.Xyb = lit< tt
 
 name_word : (n : CurveName) → Word (name_number n)
 name_word Name.BT709 = lit< tt
@@ -170,71 +169,79 @@ gamma_fits : (c : Curve) → GoodCurve (SFits w32) c → SFits w32 (gamma_number
 gamma_fits (Named n) h = zero-fits
 gamma_fits (Gamma g) h = h
 
-cicp_word : (c : Curve) (v : Cicp) → GoodCicp c v → Word (cicp_number v)
-cicp_word c Absent h = lit< tt
-cicp_word (Named n) (Primaries v) (inl e) = omega arith
-cicp_word (Named n) (Primaries v) (inr (inl e)) = omega arith
-cicp_word (Named n) (Primaries v) (inr (inr (inl e))) = omega arith
-cicp_word (Named n) (Primaries v) (inr (inr (inr e))) = omega arith
-cicp_word (Gamma g) (Primaries v) h = absurd h
+cicp_word : (c : Curve) (v : Option ℕ) → GoodCicp c v → Word (cicp_number v)
+cicp_word c None h = lit< tt
+cicp_word (Named n) (Some v) (inl e) = omega arith
+cicp_word (Named n) (Some v) (inr (inl e)) = omega arith
+cicp_word (Named n) (Some v) (inr (inr (inl e))) = omega arith
+cicp_word (Named n) (Some v) (inr (inr (inr e))) = omega arith
+cicp_word (Gamma g) (Some v) h = absurd h
 
-nine_zeros_lem : Nine (replicate 9 (pos 0))
+nine_zeros_lem : Nine nine_zeros
 nine_zeros_lem = record { nine = refl; fit = All-replicate 9 (pos 0) zero-fits }
 
-x_fits : (w : GrayWhite) → GoodWhite (SFits w32) w → SFits w32 (white_x_of w)
-x_fits (unadapted x z) h = h.0
-x_fits (adapted m) h = zero-fits
+adapted_word : (w : GrayWhite) → Word (adapted_of w)
+adapted_word (Unadapted x z) = lit< tt
+adapted_word (Adapted m) = lit< tt
 
-z_fits : (w : GrayWhite) → GoodWhite (SFits w32) w → SFits w32 (white_z_of w)
-z_fits (unadapted x z) h = h.1
-z_fits (adapted m) h = zero-fits
+x_fits : (w : GrayWhite) → GoodWhite (SFits w32) w → SFits w32 (x_of w)
+x_fits (Unadapted x z) h = h.0
+x_fits (Adapted m) h = zero-fits
 
-chad_nines : (w : GrayWhite) → GoodWhite (SFits w32) w → Nine (white_chad w)
-chad_nines (unadapted x z) h = nine_zeros_lem
-chad_nines (adapted m) h = record { nine = h.0; fit = h.1 }
+z_fits : (w : GrayWhite) → GoodWhite (SFits w32) w → SFits w32 (z_of w)
+z_fits (Unadapted x z) h = h.1
+z_fits (Adapted m) h = zero-fits
+
+chad_nines : (w : GrayWhite) → GoodWhite (SFits w32) w → Nine (chad_of w)
+chad_nines (Unadapted x z) h = nine_zeros_lem
+chad_nines (Adapted m) h = record { nine = h.0; fit = h.1 }
 
 text_long : (t : List ℕ) → length t ≤ max_letters → length (text_array t) ≡ max_letters
 text_long t h = simp (length-append, length-replicate) (omega arith)
 
 -- what of a plan's numbers depends on its kind
-record HeldNumbers (i : ℕ) (c : Content) : Type 0 where
-  intent : Word (numbers_for i c).intent
-  gamma : SFits w32 (gamma_number (numbers_for i c).curve)
-  cicp : Word (cicp_number (numbers_for i c).cicp)
-  white_x_lem : SFits w32 (numbers_for i c).white_x
-  white_z_lem : SFits w32 (numbers_for i c).white_z
-  chad : Nine (numbers_for i c).chad
-  columns : Nine (numbers_for i c).columns
+record HeldContent (c : Content) : Type 0 where
+  curve : Word (told (content_of c)).curve
+  gamma : SFits w32 (told (content_of c)).gamma
+  cicp : Word (told (content_of c)).cicp
+  adapted : Word (told (content_of c)).adapted
+  white_x_lem : SFits w32 (told (content_of c)).white_x
+  white_z_lem : SFits w32 (told (content_of c)).white_z
+  chad : Nine (told (content_of c)).chad
+  columns : Nine (told (content_of c)).columns
   letters : length (text_for c) ≤ max_letters
 
-content_held : (i : ℕ) (c : Content) → GoodIntent i → GoodContent (SFits w32) c → HeldNumbers i c
-content_held i (gray g) small h =
+content_held : (c : Content) → GoodContent (SFits w32) c → HeldContent c
+content_held (gray g) h =
     record {
-      intent = omega arith;
+      curve = curve_word g.curve;
       gamma = gamma_fits g.curve h.curve;
       cicp = lit< tt;
+      adapted = adapted_word g.white;
       white_x_lem = x_fits g.white h.white;
       white_z_lem = z_fits g.white h.white;
       chad = chad_nines g.white h.white;
       columns = nine_zeros_lem;
       letters = h.text.short;
     }
-content_held i (rgb g) small h =
+content_held (rgb g) h =
     record {
-      intent = omega arith;
+      curve = curve_word g.curve;
       gamma = gamma_fits g.curve h.curve;
       cicp = cicp_word g.curve g.cicp h.cicp;
+      adapted = lit< tt;
       white_x_lem = zero-fits;
       white_z_lem = zero-fits;
       chad = record { nine = h.chad_nine; fit = h.chad };
       columns = record { nine = h.columns_nine; fit = h.columns };
       letters = h.text.short;
     }
-content_held i xyb small h =
+content_held xyb h =
     record {
-      intent = omega arith;
+      curve = lit< tt;
       gamma = zero-fits;
       cicp = lit< tt;
+      adapted = lit< tt;
       white_x_lem = zero-fits;
       white_z_lem = zero-fits;
       chad = nine_zeros_lem;
@@ -242,35 +249,36 @@ content_held i xyb small h =
       letters = omega arith;
     }
 
-numbers_held : (p : Plan) → Valid p → HeldNumbers p.intent p.content
-numbers_held p v = content_held p.intent p.content v.intent (valid_wide p v).content
+held : (p : Plan) → Valid p → HeldContent p.content
+held p v = content_held p.content (valid_wide p v).content
 
-pub plan_held : (p : Plan) → Valid p → Held (reading (accepted p))
+pub plan_held : (p : Plan) → Valid p → Held (plan_reading p)
 plan_held p v =
-    let n = numbers_held p v in
+    let c = held p v in
     record {
-      accepted = refl;
-      kind = kind_word (numbers_of p).kind;
-      intent = n.intent;
+      kind = kind_word (kind_of (content_of p.content));
+      intent = omega (arith, v.intent);
       maker = v.maker;
       model = v.model;
       id_not_computed = mark_word p.id_not_computed;
-      curve = curve_word (numbers_of p).curve;
-      gamma = n.gamma;
-      cicp = n.cicp;
-      adapted = mark_word (numbers_of p).adapted;
-      white_x_lem = n.white_x_lem;
-      white_z_lem = n.white_z_lem;
-      chad = n.chad;
-      columns = n.columns;
-      letters = omega (arith, n.letters);
-      text = text_long (text_of p) n.letters;
+      curve = c.curve;
+      gamma = c.gamma;
+      cicp = c.cicp;
+      adapted = c.adapted;
+      white_x_lem = c.white_x_lem;
+      white_z_lem = c.white_z_lem;
+      chad = c.chad;
+      columns = c.columns;
+      letters = omega (arith, c.letters);
+      text = text_long (text_of p) c.letters;
     }
 
--- whatever file was read
-pub read_letters : (f : List ℕ) → (reading (read f)).letters ≤ max_letters
-read_letters f = go (read f) refl
+-- of an accepted file
+pub read_letters : (f : List ℕ) (r : Reading) → reading (read f) ≡ is r → r.letters ≤ max_letters
+read_letters f r h = go (read f) refl h
   where
-    go : (a : Answer) → read f ≡ a → (reading a).letters ≤ max_letters
-    go (accepted p) e = (numbers_held p ((accepts_exactly f p).0 e).0.valid).letters
-    go (refused c) e = omega arith
+    go : (a : Answer) → read f ≡ a → reading a ≡ is r → r.letters ≤ max_letters
+    go (accepted p) e h =
+        let letters : (plan_reading p).letters ≡ r.letters = ap (λ a. (value_or r a).letters) h in
+        omega (arith, letters, (held p ((accepts_exactly f p).0 e).0.valid).letters)
+    go (refused c) e h = cc

@@ -3,7 +3,7 @@
 
 #![tactic(auto)]
 
-ghost use Rattle.std.specs.Prelude.{map, ◌+◌, ◌*◌, ◌≤◌, length, take};
+ghost use Rattle.std.specs.Prelude.{◌≡◌, map, ◌+◌, ◌*◌, ◌≤◌, length, take};
 ghost use Rattle.buffer.specs.Puts.{Puts};
 ghost use Rattle.words.specs.Words.{twos_complement32};
 ghost use Rattle.profile.specs.Plan.{max_letters};
@@ -23,33 +23,24 @@ fn put_u32s_le(out: &mut [u8], at: usize, values: &[u32]) -> usize
     ensures { Puts out.old at (4 * length values.now) (le32s values.now) result out.new }
 {
     let mut next = at;
-    let mut i = 0;
-    while i < values.len() {
-        next = put_u32_le(out, next, values[i]);
-        i += 1;
+    for value in values {
+        next = put_u32_le(out, next, *value);
     }
     next
 }
 
-fn put_nine(out: &mut [u8], at: usize, values: [i32; 9]) -> usize
-    requires { at + 36 ≤ length out.old }
-    ensures { Puts out.old at 36 (le32s (map twos_complement32 values)) result out.new }
+// The two's complement of each of nine numbers.
+fn bits(values: [i32; 9]) -> [u32; 9]
+    ensures { result ≡ map twos_complement32 values }
 {
-    let mut next = at;
-    let mut i = 0;
-    while i < 9 {
-        next = put_u32_le(out, next, i32_to_bits(values[i]));
-        i += 1;
-    }
-    next
+    values.map(i32_to_bits)
 }
 
 // The numbers before `chad`.
-fn put_first(out: &mut [u8], at: usize, plan: Reading) -> usize
-    requires { at + 44 ≤ length out.old }
-    ensures { Puts out.old at 44 (le32s (take 11 (record_numbers plan))) result out.new }
+fn first_numbers(plan: Reading) -> [u32; 11]
+    ensures { result ≡ take 11 (record_numbers plan) }
 {
-    let numbers = [
+    [
         plan.kind,
         plan.intent,
         plan.maker,
@@ -61,21 +52,16 @@ fn put_first(out: &mut [u8], at: usize, plan: Reading) -> usize
         plan.adapted,
         i32_to_bits(plan.white_x),
         i32_to_bits(plan.white_z),
-    ];
-    put_u32s_le(out, at, &numbers)
+    ]
 }
 
 pub fn put_plan_record(out: &mut [u8], at: usize, plan: Reading) -> usize
     requires { (at + record_size ≤ length out.old) × (plan.letters ≤ max_letters) }
     ensures { Puts out.old at record_size (plan_record plan) result out.new }
 {
-    let letters = plan.letters as u32;
-    let chad = plan.chad;
-    let columns = plan.columns;
-    let text = plan.text;
-    let at = put_first(out, at, plan);
-    let at = put_nine(out, at, chad);
-    let at = put_nine(out, at, columns);
-    let at = put_u32_le(out, at, letters);
-    buffer::put_bytes(out, at, &text)
+    let at = put_u32s_le(out, at, &first_numbers(plan));
+    let at = put_u32s_le(out, at, &bits(plan.chad));
+    let at = put_u32s_le(out, at, &bits(plan.columns));
+    let at = put_u32_le(out, at, plan.letters as u32);
+    buffer::put_bytes(out, at, &plan.text)
 }

@@ -23,9 +23,9 @@ pub returns : goal.returns
 returns c =
     let plan = c.args.plan in
     run _ _
-    (next c.put_first-at.ensures
-    (next c.put_nine-at.ensures
-    (next c.put_nine-at-2.ensures
+    (next (rw c.first_numbers.ensures at c.put_u32s_le-at.ensures)
+    (next (rw c.bits.ensures at c.put_u32s_le-at-2.ensures)
+    (next (rw c.bits-2.ensures at c.put_u32s_le-at-3.ensures)
     (next c.put_u32_le-at.ensures
     (next c.put_bytes.ensures
     done))))) (omega (arith, ((goal.at.returns c).Start).requires.0)) (record_parts plan) (length-record plan (chad_nine (goal.at.returns c).Start) (columns_nine ((goal.at.returns c).Start)) (letters-long (goal.at.returns c).Start))

@@ -1,15 +1,15 @@
--- With i numbers behind it, the loop has put the first i: the laws `begun`, `one_more`, `ended`. The measure is how many are left. Assumes nothing.
-use borrow.Author.Rules.{rules}
-use mathlib.Core.Path.{refl}
+-- With i numbers behind it, the loop has put the first i: the laws `begun`, `one_more`, `ended`. Assumes nothing.
 use native.Mathlib.Omega.{arith}
-use Rattle.elements.specs.EncodingLaws.{begun, one_more}
+use Rattle.elements.specs.EncodingLaws.{begun, one_more, ended}
 use Rattle.plan_record.specs.PlanRecordLaws.{unsigned}
 use Rattle.plan_record.proofs.put_u32s_le.Goals as goal
 
-pub loop-i-init : goal.loop-i-init
-loop-i-init c =
-    (search rules, begun unsigned _ _ c.args.values.now, refl)
+pub loop-value-init : goal.loop-value-init
+loop-value-init c = begun unsigned _ _ c.args.values.now
 
-pub loop-i-preserved : goal.loop-i-preserved
-loop-i-preserved c =
-    (search rules, one_more unsigned 0 c.args.values.now (omega arith) (omega arith) c.loop-i.invariant.1 c.put_u32_le-next.ensures, search rules)
+pub loop-value-preserved : goal.loop-value-preserved
+loop-value-preserved c =
+    one_more unsigned 0 c.args.values.now (omega arith) c.loop-value-test.true c.loop-value.invariant c.put_u32_le-next.ensures
+
+pub returns : goal.returns
+returns c = ended unsigned c.args.values.now (omega arith) c.loop-value.invariant

@@ -1,12 +1,8 @@
-use Prim.Native.Nat.{◌-◌, ◌*◌, ◌≤◌}
-use mathlib.Core.Path.{◌≡◌}
-use lib.ListN.{length, take}
+use Prim.Native.Nat.{◌*◌}
+use lib.ListN.{take}
 use Rattle.buffer.specs.Puts.{Puts}
 use Rattle.plan_record.specs.PlanRecord.{le32s}
 use Rattle.plan_record.proofs.put_u32s_le.Given as goal
 
-abbrev pub invariant-loop-i : goal.invariant-loop-i
-invariant-loop-i l = (l.i ≤ length l.values) × Puts l.initial.out l.at (4 * l.i) (le32s (take l.i l.values)) l.next l.out × (length l.out ≡ length l.initial.out)
-
-abbrev pub decreases-loop-i : goal.decreases-loop-i
-decreases-loop-i l = length l.values - l.i
+abbrev pub invariant-loop-value : goal.invariant-loop-value
+invariant-loop-value l = Puts l.initial.out l.at (4 * l.value-index) (le32s (take l.value-index l.values)) l.next l.out
