@@ -6,22 +6,21 @@ use Rattle.std.proofs.lemmas.Bool.{lt-leb}
 use Rattle.std.proofs.Math.Dec.{leb}
 use Rattle.buffer.specs.Buffer.{put}
 use Rattle.buffer.specs.BoolLaws.{both_left, both_right}
-use Rattle.buffer.specs.Checked.{Checked, is, refused}
+use Rattle.buffer.specs.Checked.{Checked, is, refused, then}
 use Rattle.buffer.specs.CheckedLaws as CheckedLaws
 use Rattle.profile.specs.Plan.{Plan}
 use Rattle.profile.specs.Shape.{min_length, max_length}
 use Rattle.reader_spec.specs.RefusalList as Reader
-use Rattle.reader_spec.specs.RefusalListLaws.{number_bounds}
 use Rattle.reader_spec.specs.Read.{read}
 use Rattle.reader_spec.proofs.Accepts.{accepted_owned}
 use Rattle.reading.specs.Reading.{reading}
+use Rattle.reading.specs.declared.Reading.{Reading}
 use Rattle.app2.specs.Segments.{Segment, bytes, cut, segments}
 use Rattle.app2.specs.Joining.{parse, complete, joined}
 use Rattle.app2.specs.Properties.{Named}
 use Rattle.app2.specs.CutLaws.{cut_number, over_few}
 use Rattle.app2.specs.App2.{if_accepted, accepted_file, max_data, max_segments, sized_segments, if_complete, complete_segments, fitting}
 use Rattle.app2.specs.App2.{written_segments, joined_file, answer, output, Gives}
-use Rattle.app2.specs.declared.Output.TheVariants.{Written, Refused}
 
 -- a test that chose between a value and a refusal
 cond-is : {A : Type 0} (t : Bool) (k : ℕ) {a b : A} → cond t (is a) (refused k) ≡ is b → (t ≡ true) × (a ≡ b)
@@ -50,22 +49,14 @@ accepted_is f {g} e = go (read f) refl e
 pub accepted_bounds : (f : List ℕ) {g : List ℕ} → accepted_file f ≡ is g → (min_length ≤ length f) × (length f ≤ max_length)
 accepted_bounds f e = let a = accepted_is f e in let o = accepted_owned f a.plan a.read_is in (o.1, o.2)
 
--- as code has it: by the number that the reader answers
-pub by_refusal : (f : List ℕ) → ((reading (read f)).refusal ≡ 0 → ⊥) → accepted_file f ≡ refused (reading (read f)).refusal
+-- as code has it: by what the reader answers
+pub accepted_by : (f : List ℕ) {c : Checked Reading} → c ≡ reading (read f) → accepted_file f ≡ then c (λ r. is f)
 unfolding accepted_file
-by_refusal f h = go (read f) h
+accepted_by f {c} e = go (read f) e
   where
-    go : (a : Reader.Answer) → ((reading a).refusal ≡ 0 → ⊥) → if_accepted a f ≡ refused (reading a).refusal
-    go (Reader.refused c) h = refl
-    go (Reader.accepted p) h = absurd (h refl)
-
-pub by_zero : (f : List ℕ) → (reading (read f)).refusal ≡ 0 → accepted_file f ≡ is f
-unfolding accepted_file
-by_zero f h = go (read f) h
-  where
-    go : (a : Reader.Answer) → (reading a).refusal ≡ 0 → if_accepted a f ≡ is f
-    go (Reader.refused c) h = absurd (omega (arith, (number_bounds c).0))
-    go (Reader.accepted p) h = refl
+    go : (a : Reader.Answer) → c ≡ reading a → if_accepted a f ≡ then c (λ r. is f)
+    go (Reader.refused k) e = rw e
+    go (Reader.accepted p) e = rw e
 
 -- ---- 53
 
@@ -189,11 +180,11 @@ module _ (P : ℕ → Type 0) where
 
 -- ---- the promise
 
-pub gives_refusal : {c : Checked (List ℕ)} {k : ℕ} {out : List ℕ} → c ≡ refused k → Gives c out out (Refused k)
+pub gives_refusal : {c : Checked (List ℕ)} {k : ℕ} {out : List ℕ} → c ≡ refused k → Gives c out out (refused k)
 gives_refusal {out = out} e = record { answer = sym (ap answer e); output = sym (ap (λ x. output x out) e) }
 
-pub gives_bytes : {c : Checked (List ℕ)} {l before after : List ℕ} {n : ℕ} → c ≡ is l → n ≡ length l → after ≡ put before 0 l → Gives c before after (Written n)
-gives_bytes {before = before} e n p = record { answer = ap Written n ∙ sym (ap answer e); output = p ∙ sym (ap (λ x. output x before) e) }
+pub gives_bytes : {c : Checked (List ℕ)} {l before after : List ℕ} {n : ℕ} → c ≡ is l → n ≡ length l → after ≡ put before 0 l → Gives c before after (is n)
+gives_bytes {before = before} e n p = record { answer = ap is n ∙ sym (ap answer e); output = p ∙ sym (ap (λ x. output x before) e) }
 
 -- ---- what writing gives, check by check
 

@@ -8,8 +8,6 @@ use Rattle.reader_spec.specs.RefusalList as Reader
 use Rattle.reader_spec.specs.Read.{read}
 use Rattle.app2.specs.Segments.{Segment, bytes, cut, segments}
 use Rattle.app2.specs.Joining.{parse, complete, joined}
-use Rattle.app2.specs.declared.Output.{Output}
-use Rattle.app2.specs.declared.Output.TheVariants.{Written, Refused}
 
 -- ---- the checks
 
@@ -57,9 +55,9 @@ joined_file b room = then (complete_segments b) (λ ss. then (fitting room (join
 -- ---- what a call answers and leaves
 
 -- the length of the bytes that it gives, or the number
-abbrev pub answer : Checked (List ℕ) → Output
-answer (is l) = Written (length l)
-answer (refused n) = Refused n
+abbrev pub answer : Checked (List ℕ) → Checked ℕ
+answer (is l) = is (length l)
+answer (refused n) = refused n
 
 -- the output at exit: the bytes in front and the rest as it was, or all as it was
 abbrev pub output : Checked (List ℕ) → List ℕ → List ℕ
@@ -67,17 +65,17 @@ output (is l) out = put out 0 l
 output (refused n) out = out
 
 -- the promise of a call that gives c
-pub record Gives (c : Checked (List ℕ)) (before after : List ℕ) (r : Output) : Type 0 where
+pub record Gives (c : Checked (List ℕ)) (before after : List ℕ) (r : Checked ℕ) : Type 0 where
   pub answer : r ≡ answer c
   pub output : after ≡ output c before
 
 -- ---- the answer as one number, as C has it
 
 -- the length or the refusal number
-abbrev pub number : Output → ℕ
-number (Written n) = n
-number (Refused k) = k
+abbrev pub number : Checked ℕ → ℕ
+number (is n) = n
+number (refused k) = k
 
 -- the answer that such a number stands for: a refusal number is at most 99, a length at least 284
-abbrev pub output_by : ℕ → Output
-output_by n = cond (leb n 99) (Refused n) (Written n)
+abbrev pub output_by : ℕ → Checked ℕ
+output_by n = cond (leb n 99) (refused n) (is n)

@@ -1,10 +1,11 @@
 -- What is found of the segments of a buffer: their number, and where each of them stands. Assumes nothing.
-use Rattle.std.specs.Prelude.{ℕ, ◌+◌, ◌-◌, ◌≤◌, ◌≡◌, Bool, ◌&&◌, List, leb, eqb, length, take, drop, get_or}
+use Rattle.std.specs.Prelude.{ℕ, ◌+◌, ◌-◌, ◌≤◌, ◌≡◌, Bool, ◌&&◌, List, leb, eqb, length, take, drop, get_or, Option, None, Some}
 use Rattle.buffer.specs.Checked.{is, refused}
 use Rattle.words.specs.Words.{word16}
 use Rattle.app2.specs.Segments.{Segment}
 use Rattle.app2.specs.Joining.{begins, first, chunk_of}
 use Rattle.app2.specs.App2.{max_segments, complete_segments}
+use Rattle.segments_finder.specs.declared.Places.{Places}
 
 -- the data of the segment whose length stands at the place p of a buffer b
 pub record HasData (b : List ℕ) (p : ℕ) (l : List ℕ) : Type 0 where
@@ -21,10 +22,10 @@ pub record Found (b places : List ℕ) (n : ℕ) : Type 0 where
   pub known : length places ≡ 256
   pub placed : (i : ℕ) → 1 ≤ i → i ≤ n → HasData b (get_or places i 0) (chunk_of i segments)
 
--- n is their number, or 0 where the buffer is no complete segments
-pub record Finds (b places : List ℕ) (n : ℕ) : Type 0 where
-  pub none : n ≡ 0 → complete_segments b ≡ refused 54
-  pub found : 1 ≤ n → Found b places n
+-- the places of their lengths, where a buffer is complete segments
+abbrev pub Finds : List ℕ → Option Places → Type 0
+Finds b None = complete_segments b ≡ refused 54
+Finds b (Some p) = Found b p.at p.count
 
 -- a segment stands at the front of l with the count c, and with a sequence number from 1 to c that has no place yet
 unfoldable pub begins_new : ℕ → List ℕ → List ℕ → Bool

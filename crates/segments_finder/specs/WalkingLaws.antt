@@ -21,8 +21,8 @@ use Rattle.app2.specs.Joining.{stated, begins, first, rest, before, parse, times
 use Rattle.app2.specs.App2.{max_segments}
 use Rattle.app2.specs.ParseLaws.{parse_nothing, parse_step, begins_parts}
 use Rattle.app2.proofs.JoinLaws.{Complete, complete_parts, complete_whole}
-use Rattle.app2.proofs.ChecksLaws.{Incomplete, complete_of, complete_not}
-use Rattle.segments_finder.specs.Found.{HasData, Found, Finds, begins_new}
+use Rattle.app2.proofs.ChecksLaws.{Incomplete, complete_of}
+use Rattle.segments_finder.specs.Found.{HasData, Found, begins_new}
 use Rattle.segments_finder.specs.InsideLaws.{inside, times_append, inside_append, times_one, times_other, outside_one, inside_one, inside_none, inside_most, inside_once, inside_bound, once_inside, once_at}
 
 -- ---- segments in front of what is parsed
@@ -357,7 +357,7 @@ module _ (b : List ℕ) (c at n : ℕ) (places : List ℕ) (few : c ≤ max_segm
         k (w.many ∙ ap length (sym same) ∙ first_count b ss p q ∙ sym first_one)
 
     -- none at all
-    no_segment : n ≡ 0 → Incomplete b
+    pub no_segment : n ≡ 0 → Incomplete b
     no_segment e ss p q =
         let same : ss ≡ w.passed = cc (all_parsed) in
         omega (arith, ap length same, w.many, (complete_parts ss q).some-segment)
@@ -366,7 +366,7 @@ module _ (b : List ℕ) (c at n : ℕ) (places : List ℕ) (few : c ≤ max_segm
       all_once : each_once c 1 w.passed ≡ true
       all_once = once_inside c 1 w.passed not-doubled (w.all_inside ∙ sym w.many ∙ e)
 
-      found : length places ≡ 256 → 1 ≤ c → Found b places c
+      pub found : length places ≡ 256 → 1 ≤ c → Found b places c
       found known some_one =
           record {
             segments = w.passed;
@@ -391,10 +391,3 @@ module _ (b : List ℕ) (c at n : ℕ) (places : List ℕ) (few : c ≤ max_segm
           there : (i : ℕ) → 1 ≤ i → i ≤ c → Dec (get_or places i 0 ≡ 0) → 1 ≤ get_or places i 0
           there i low high (yes z) = absurd (omega (arith, (w.placed i (omega arith)).absent z, once_at c 1 w.passed all_once i low (omega arith)))
           there i low high (no z) = omega arith
-
-      pub finds_all : length places ≡ 256 → Finds b places c
-      finds_all known = record { none = λ z. complete_not b (no_segment (omega arith)); found = found known }
-
--- what is found where the segments are not complete
-pub finds_none : {b : List ℕ} (places : List ℕ) → Incomplete b → Finds b places 0
-finds_none {b} places h = record { none = λ z. complete_not b h; found = λ some_one. absurd (omega arith) }
