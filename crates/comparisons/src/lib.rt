@@ -69,7 +69,7 @@ pub fn table_is(file: &[u8], shape: Shape) -> bool
 }
 
 // Whether a file has the elements and the id of a plan.
-#[derive(Clone, Copy)]
+#[derive(Clone, Copy, Debug, PartialEq, Eq)]
 pub struct Comparison {
     pub elements: bool,
     pub id: bool,
@@ -90,8 +90,7 @@ pub fn id_is_zeros(file: &[u8]) -> bool
     requires { header_size + count_size ≤ length file.now }
     ensures { result ≡ same (take id_size (drop id_at file.now)) (zeros id_size) }
 {
-    let zeros = [0u8; ID_SIZE];
-    buffer::same_bytes(&file[ID..ID_END], &zeros)
+    buffer::same_bytes(&file[ID..ID_END], &[0; ID_SIZE])
 }
 
 // A file compared with the layout of the one plan that it can have. Its header and its tag table are those of the plan, so only the rest is laid out.

@@ -1,5 +1,6 @@
 -- The reader, as the refusal list of 01 says it: the checks in order, each a fact of the file, and what it answers. Assumes nothing.
-use Rattle.std.specs.Prelude.{ℕ, ◌+◌, ◌≤◌, ◌≡◌, ◌⊎◌, cond, List, [], ◌∷◌, length, take}
+use Rattle.std.specs.Prelude.{ℕ, ◌+◌, ◌≤◌, ◌≡◌, ◌⊎◌, Bool, List, [], ◌∷◌, length, take}
+use Rattle.buffer.specs.Checked.{Checked}
 use Rattle.buffer.specs.First.{First}
 use Rattle.buffer.specs.Bytes.{zeros}
 use Rattle.profile.specs.Elements.{header_size, count_size, table, body, file_length}
@@ -104,12 +105,7 @@ pub data Answers (f : List ℕ) : Answer → Type 0 where
   refuses : {c : Check} → FirstFailing f checks c → Answers f (refused c)
   accepts : (p : Plan) → Exists p → layout p ≡ f → Answers f (accepted p)
 
--- 01's number of an answer, and 0 where the file is accepted
-abbrev pub refusal_number : Answer → ℕ
-refusal_number (refused c) = number c
-refusal_number (accepted p) = 0
-
--- 1 for a plan with the mark, and 0 otherwise
-abbrev pub mark_number : Answer → ℕ
-mark_number (refused c) = 0
-mark_number (accepted p) = cond p.id_not_computed 1 0
+-- the mark of the accepted plan, or 01's number
+abbrev pub marked : Answer → Checked Bool
+marked (refused c) = Checked.refused (number c)
+marked (accepted p) = Checked.is p.id_not_computed

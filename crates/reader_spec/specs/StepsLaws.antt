@@ -1,10 +1,11 @@
 -- What the reader answers where a check fails, and where it goes on. Assumes nothing.
 use Rattle.std.specs.Prelude.{ℕ, ◌≤◌, ◌≡◌, refl, Bool, List, length}
 use Rattle.std.proofs.Math.Path.{ap}
-use Rattle.std.proofs.Common.{sym, ◌∙◌, subst, arith, SFits}
+use Rattle.std.proofs.Common.{sym, ◌∙◌, subst, SFits}
 use Rattle.std.proofs.Math.Bool.{true, false}
 use Rattle.std.specs.Int.{w32}
 use Rattle.buffer.specs.Bytes.{zeros, same}
+use Rattle.buffer.specs.Checked.{is, value_or}
 use Rattle.profile.specs.Plan.{Plan, with_mark, GoodContent, GoodIntent, InRange, Wide}
 use Rattle.profile.specs.declared.Kind.{Kind}
 use Rattle.profile.specs.Layout.{profile_id, computed_id, layout}
@@ -92,15 +93,18 @@ laid_id k f p h w has =
     ∙ sym (has_id f (record { long = h.sized.long }) (record { size = h.sized.size }) p w has)
 
 -- what is accepted from 26 on is that plan, with the mark or without it
-pub accepted_plan : (f : List ℕ) → RefusalList.refusal_number (from_body f) ≡ 0 → (m : Bool) × (from_body f ≡ RefusalList.accepted (with_mark m (plan_in f)))
-unfolding from_body from_range from_id
-accepted_plan f e = go _ _ (same (varying_of f).id (profile_id f)) (same (varying_of f).id (zeros 16)) (plan_in f) e
+pub accepted_plan : (f : List ℕ) (m : Bool) → RefusalList.marked (from_body f) ≡ is m → from_body f ≡ RefusalList.accepted (with_mark m (plan_in f))
+unfolding from_body from_range from_id check
+accepted_plan f m e =
+    let id = (varying_of f).id in
+    let p = plan_in f in
+    go (Decide.body_is p f) (Decide.content InRange Decide.in_range_lem p.content) (same id (profile_id f)) (same id (zeros 16)) p e
   where
     go : {A B : Type 0} (a : Dec A) (b : Dec B) (correct zero : Bool) (p : Plan)
         → let r = check a RefusalList.c26 (check b RefusalList.c27 (by_id correct zero p)) in
-        RefusalList.refusal_number r ≡ 0 → (m : Bool) × (r ≡ RefusalList.accepted (with_mark m p))
-    go (yes a) (yes b) true zero p e = (false, unfold check in refl)
-    go (yes a) (yes b) false true p e = (true, unfold check in refl)
-    go (yes a) (yes b) false false p e = absurd (unfold check in omega arith)
-    go (yes a) (no b) correct zero p e = absurd (unfold check in omega arith)
-    go (no a) b correct zero p e = absurd (unfold check in omega arith)
+        RefusalList.marked r ≡ is m → r ≡ RefusalList.accepted (with_mark m p)
+    go (yes a) (yes b) true zero p e = ap (λ k. RefusalList.accepted (with_mark (value_or m k) p)) e
+    go (yes a) (yes b) false true p e = ap (λ k. RefusalList.accepted (with_mark (value_or m k) p)) e
+    go (yes a) (yes b) false false p e = cc
+    go (yes a) (no b) correct zero p e = cc
+    go (no a) b correct zero p e = cc

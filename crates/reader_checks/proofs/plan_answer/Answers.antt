@@ -1,6 +1,5 @@
 -- Each answer is the number of the check that its test makes, or the mark of the plan (`ComparedLaws`).
-use Prim.Native.Nat.{ℕ}
-use mathlib.Core.Path.{◌≡◌, refl, ap, sym, ◌∙◌}
+use mathlib.Core.Path.{◌≡◌, refl, sym, ◌∙◌}
 use mathlib.Core.Bool.{Bool, true}
 use lib.ListN.{drop}
 use borrow.Author.Tests.{not-true, not-false}
@@ -12,15 +11,10 @@ use Rattle.profile.specs.Shape.{shape, slots_of}
 use Rattle.reader_spec.specs.FitsLaws.{Bytes}
 use Rattle.reader_spec.specs.PlanIn.{plan_in}
 use Rattle.reader_spec.specs.Read.{by_id, from_body}
-use Rattle.reader_spec.specs.RefusalList.{Answer, refusal_number, mark_number}
 use Rattle.reader_spec.specs.Tests.{letters_and_cicp_good, numbers_in_range}
 use Rattle.reader_spec.specs.ComparedLaws.{by_letters, by_elements, by_range, by_id_lem}
 use Rattle.reader_checks.proofs.plan_answer.Goals.{Else-not-letters_and_cicp_good, Else-not-found, After-id_is_zeros-zeros}
 use Rattle.reader_checks.proofs.plan_answer.Goals as goal
-
--- the number and the mark of what the reader answers
-answered : {a b : Answer} {n m : ℕ} → (n ≡ refusal_number a) × (m ≡ mark_number a) → b ≡ a → (n ≡ refusal_number b) × (m ≡ mark_number b)
-answered h e = (h.0 ∙ sym (ap refusal_number e), h.1 ∙ sym (ap mark_number e))
 
 module _ (c : Else-not-letters_and_cicp_good) where
   good : letters_and_cicp_good c.args.plan c.args.text.now ≡ true
@@ -49,8 +43,7 @@ module _ (c : After-id_is_zeros-zeros) where
 
 pub returns-then-not-letters_and_cicp_good : goal.returns-then-not-letters_and_cicp_good
 returns-then-not-letters_and_cicp_good c =
-    let h = answered c.refused.ensures (by_letters c.args.file.now c.args.plan c.args.text.now c.requires (sym c.letters_and_cicp_good.ensures ∙ c.if-not-letters_and_cicp_good.true)) in
-    record { refusal_value = h.0; id_not_computed_value = h.1 }
+    rw (by_letters c.args.file.now c.args.plan c.args.text.now c.requires (sym c.letters_and_cicp_good.ensures ∙ c.if-not-letters_and_cicp_good.true))
 
 pub compared-found-requires : goal.compared-found-requires
 compared-found-requires c = (c.requires, good (goal.at.compared-found-requires c).Else-not-letters_and_cicp_good)
@@ -58,32 +51,20 @@ compared-found-requires c = (c.requires, good (goal.at.compared-found-requires c
 pub returns-then-not-found : goal.returns-then-not-found
 returns-then-not-found c =
     let l = (goal.at.returns-then-not-found c).Else-not-letters_and_cicp_good in
-    let h =
-    answered c.refused-then-not-found.ensures
-    (by_elements c.args.file.now c.args.plan c.args.text.now c.requires (bytes l) (good l) (sym c.compared-found.ensures.elements_value ∙ not-true _ c.if-not-found.true))
-    in
-    record { refusal_value = h.0; id_not_computed_value = h.1 }
+    rw (by_elements c.args.file.now c.args.plan c.args.text.now c.requires (bytes l) (good l) (sym c.compared-found.ensures.elements_value ∙ not-true _ c.if-not-found.true))
 
 pub returns-then-not-numbers_in_range : goal.returns-then-not-numbers_in_range
 returns-then-not-numbers_in_range c =
     let l = (goal.at.returns-then-not-numbers_in_range c).Else-not-letters_and_cicp_good in
-    let h =
-    answered c.refused-then-not-numbers_in_range.ensures
-    (by_range c.args.file.now c.args.plan c.args.text.now c.requires (bytes l) (good l) (same_elements (goal.at.returns-then-not-numbers_in_range c).Else-not-found) (sym c.numbers_in_range.ensures ∙ c.if-not-numbers_in_range.true))
-    in
-    record { refusal_value = h.0; id_not_computed_value = h.1 }
+    let elements = same_elements (goal.at.returns-then-not-numbers_in_range c).Else-not-found in
+    let range = sym c.numbers_in_range.ensures ∙ c.if-not-numbers_in_range.true in
+    rw (by_range c.args.file.now c.args.plan c.args.text.now c.requires (bytes l) (good l) elements range)
 
 pub returns-then-found : goal.returns-then-found
-returns-then-found c =
-    let h = answered c.accepted.ensures (by_both (goal.at.returns-then-found c).After-id_is_zeros-zeros c.if-found.true refl) in
-    record { refusal_value = h.0; id_not_computed_value = h.1 }
+returns-then-found c = rw (by_both (goal.at.returns-then-found c).After-id_is_zeros-zeros c.if-found.true refl)
 
 pub returns-then-zeros : goal.returns-then-zeros
-returns-then-zeros c =
-    let h = answered c.accepted-then-zeros.ensures (by_both (goal.at.returns-then-zeros c).After-id_is_zeros-zeros c.if-found.false c.if-zeros.true) in
-    record { refusal_value = h.0; id_not_computed_value = h.1 }
+returns-then-zeros c = rw (by_both (goal.at.returns-then-zeros c).After-id_is_zeros-zeros c.if-found.false c.if-zeros.true)
 
 pub returns : goal.returns
-returns c =
-    let h = answered c.refused-2.ensures (by_both (goal.at.returns c).After-id_is_zeros-zeros c.if-found.false c.if-zeros.false) in
-    record { refusal_value = h.0; id_not_computed_value = h.1 }
+returns c = rw (by_both (goal.at.returns c).After-id_is_zeros-zeros c.if-found.false c.if-zeros.false)
