@@ -1,19 +1,18 @@
 -- What stands at a place of a text, for scanners that go by places. Assumes nothing.
-use Rattle.std.specs.Prelude.{ℕ, suc, cond, List, [], ◌∷◌, length, drop}
-use Rattle.scanner.specs.Scan.{starts_with}
+use Rattle.std.specs.Prelude.{ℕ, cond, List, [], ◌∷◌, length, drop, Option, Some, None}
+use Rattle.std.specs.Borrow.{Bor}
+use Rattle.scanner.specs.Scan.{Found, nothing, found, or_else, starts_with, after}
 
--- the text behind the letters that it starts with; no text where it starts with others
-abbrev pub behind : List ℕ → List ℕ → List ℕ
-behind letters l = cond (starts_with letters l) (drop (length letters) l) []
+-- the text behind the letters that it starts with
+abbrev pub behind : List ℕ → List ℕ → Option (List ℕ)
+behind letters l = cond (starts_with letters l) (Some (drop (length letters) l)) None
 
--- names of three letters each, written one after another
-abbrev pub threes : List ℕ → List (List ℕ)
-threes (a ∷ b ∷ c ∷ l) = (a ∷ b ∷ c ∷ []) ∷ threes l
-threes (a ∷ b ∷ []) = []
-threes (a ∷ []) = []
-threes [] = []
+-- what a scanner by places answers: what it found, and the place after it
+abbrev pub found_at : {A : Type 0} → List ℕ → Option (A × ℕ) → Found A
+found_at text None = nothing
+found_at text (Some (a, next)) = found a (drop next text)
 
--- the place in the list of the first name that a text starts with; the list's length where it starts with none
-abbrev pub name_number : List (List ℕ) → List ℕ → ℕ
-name_number [] l = 0
-name_number (name ∷ names) l = cond (starts_with name l) 0 (suc (name_number names l))
+-- the value of the first of some names that stands in front
+abbrev pub first_named : {A : Type 0} → List (Bor (List ℕ) × A) → List ℕ → Found A
+first_named [] l = nothing
+first_named ((name, a) ∷ rest) l = or_else (after name.now (found a) l) (first_named rest l)

@@ -2,30 +2,9 @@
 
 #![tactic(auto)]
 
-ghost use Rattle.std.specs.Prelude.{◌≡◌, ◌∷◌, [], drop};
+ghost use Rattle.std.specs.Prelude.{◌≡◌, drop, option_map};
 ghost use Rattle.scanner.specs.Scan.{starts_with};
-ghost use Rattle.scanner.specs.Places.{behind, threes, name_number};
-
-// Whether a letter stands at a place.
-pub fn letter_at(text: &[u8], at: usize, letter: u8) -> bool
-    ensures { result ≡ starts_with (letter ∷ []) (drop at text.now) }
-{
-    if text.len() <= at {
-        return false;
-    }
-    letter == text[at]
-}
-
-// The place after a letter that stands at a place; where it does not stand there, the end of the text.
-pub fn past(text: &[u8], at: usize, letter: u8) -> usize
-    ensures { drop result text.now ≡ behind (letter ∷ []) (drop at text.now) }
-{
-    if letter_at(text, at, letter) {
-        at + 1
-    } else {
-        text.len()
-    }
-}
+ghost use Rattle.scanner.specs.Places.{behind, found_at, first_named};
 
 // Whether letters stand at a place.
 pub fn letters_at(text: &[u8], at: usize, letters: &[u8]) -> bool
@@ -40,29 +19,25 @@ pub fn letters_at(text: &[u8], at: usize, letters: &[u8]) -> bool
     buffer::same_bytes(letters, &text[at..at + letters.len()])
 }
 
-// The place after letters that the text starts with; where it starts with others, its end.
-pub fn past_front(text: &[u8], letters: &[u8]) -> usize
-    ensures { drop result text.now ≡ behind letters.now text.now }
+// The place after letters that stand at a place.
+pub fn past(text: &[u8], at: usize, letters: &[u8]) -> Option<usize>
+    ensures { option_map (λ next. drop next text.now) result ≡ behind letters.now (drop at text.now) }
 {
-    if letters_at(text, 0, letters) {
-        letters.len()
+    if letters_at(text, at, letters) {
+        Some(at + letters.len())
     } else {
-        text.len()
+        None
     }
 }
 
-// The number of the first of some names, of three letters each, that stands at a place; where none does, how many they are.
-pub fn name_at(text: &[u8], at: usize, names: &[u8]) -> usize
-    ensures { result ≡ name_number (threes names.now) (drop at text.now) }
+// The value of the first of some names that stands at a place, and the place after it.
+pub fn value_at<T: Copy>(text: &[u8], at: usize, names: &[(&str, T)]) -> Option<(T, usize)>
+    ensures { found_at text.now result ≡ first_named names.now (drop at text.now) }
 {
-    let mut n = 0;
-    let mut i = 0;
-    while 3 <= names.len() - i {
-        if letters_at(text, at, &names[i..i + 3]) {
-            return n;
+    for (name, value) in names {
+        if let Some(next) = past(text, at, name.as_bytes()) {
+            return Some((*value, next));
         }
-        n += 1;
-        i += 3;
     }
-    n
+    None
 }

@@ -1,9 +1,8 @@
--- The letter stands there, or it does not. Assumes nothing.
-use mathlib.Core.List.{◌∷◌, []}
-use mathlib.Core.Path.{sym, ◌∙◌}
-use lib.ListN.{drop}
-use Rattle.scanner.specs.PlacesLaws.{drop-next, behind_here}
+-- The letters stand there. Assumes nothing.
+use Rattle.std.proofs.Common.{sym, ◌∙◌, ◌^◌, arith}
+use Rattle.scanner.specs.PlacesLaws.{letters_end}
 use Rattle.scanner.proofs.past.Goals as goal
 
-pub returns-then-letter_at : goal.returns-then-letter_at
-returns-then-letter_at c = let s = c.args in sym (drop-next s.at s.text.now) ∙ behind_here (s.letter ∷ []) (drop s.at s.text.now) (sym c.letter_at.ensures ∙ c.if-letter_at.true)
+pub overflow_add-result : goal.overflow_add-result
+overflow_add-result c =
+    omega (arith, letters_end c.args.letters.now c.args.at c.args.text.now (2 ^ 64) (omega arith) (omega arith) (sym c.letters_at.ensures ∙ c.if-letters_at.true))
