@@ -7,10 +7,11 @@ ghost use Rattle.std.specs.Prelude.{◌≡◌, Bool, cond, ◌+◌, ◌*◌, ◌
 ghost use Rattle.std.specs.Float.{binary32};
 ghost use Rattle.std.specs.Float.Ieee.{of_bits, round};
 ghost use Rattle.std.specs.Float.Ieee.Nearest.{closest};
-ghost use Rattle.decimal_parser.specs.ParseFloat.{whole_part, more_digits, unsigned, float};
-ghost use Rattle.decimal_parser.specs.FloatPlaces.{front_digit, unsigned_from, decimal_at, float_at};
+ghost use Rattle.scanner.specs.Places.{found_at};
+ghost use Rattle.decimal_parser.specs.ParseFloat.{whole_part, more_digits, unsigned, with_sign, float};
+ghost use Rattle.decimal_parser.specs.FloatPlaces.{front_digit};
 
-use scanner::letter_at;
+use scanner::past;
 
 // ---- the nearest f32 of q / 10^7
 
@@ -42,8 +43,7 @@ fn scale(q: u64) -> Scaled
     requires { (0 < q) × (q < 10 ^ 9) }
     ensures { (result.n ≡ q * 2 ^ result.j) × (2 ^ 23 * 10 ^ 7 ≤ result.n) × (result.n < 2 ^ 24 * 10 ^ 7) × (result.j ≤ 149) }
 {
-    let zeros = u64::leading_zeros(q) as u64;
-    let j = zeros - 17;
+    let j = q.leading_zeros() as u64 - 17;
     let n = q << j;
     if n < 83886080000000 {
         Scaled { n: n * 2, j: j + 1 }
@@ -61,9 +61,7 @@ fn magnitude(q: u64) -> u64
     if q == 0 {
         return 0;
     }
-    let s = scale(q);
-    let n = s.n;
-    let j = s.j;
+    let Scaled { n, j } = scale(q);
     (149 - j) * 8388608 + nearest_quotient(n)
 }
 
@@ -81,123 +79,70 @@ fn nearest_f32(negative: bool, q: u64) -> f32
 
 // ---- numbers in a text
 
-// A number times 10^7, and the place after it.
-#[derive(Clone, Copy)]
-enum DecimalAt {
-    Found { q: u64, next: usize },
-    Nothing,
-}
-
-// A float, and the place after it.
-#[derive(Clone, Copy)]
-pub enum FloatAt {
-    Found { x: f32, next: usize },
-    Nothing,
-}
-
-fn widened(c: u8) -> u64
-    ensures { result ≡ c }
-{
-    c as u64
-}
-
-// The digit at a place, or 10 where there is none.
-fn digit_at(text: &[u8], at: usize) -> u64
+// The digit at a place.
+fn digit_at(text: &[u8], at: usize) -> Option<u64>
     ensures { result ≡ front_digit (drop at text.now) }
 {
-    if text.len() <= at {
-        return 10;
+    match text.get(at)? {
+        c @ b'0'..=b'9' => Some(u64::from(*c - b'0')),
+        _ => None,
     }
-    let c = widened(text[at]);
-    if c < 48 {
-        return 10;
-    }
-    if 57 < c {
-        return 10;
-    }
-    c - 48
 }
 
 // One digit, or two of which the first is not zero, and the point.
-fn whole_at(text: &[u8], at: usize) -> DecimalAt
-    ensures { decimal_at text.now result ≡ whole_part (drop at text.now) }
+fn whole_at(text: &[u8], at: usize) -> Option<(u64, usize)>
+    ensures { found_at text.now result ≡ whole_part (drop at text.now) }
 {
-    let a = digit_at(text, at);
-    if 10 <= a {
-        return DecimalAt::Nothing;
-    }
-    let p = at + 1;
-    if letter_at(text, p, b'.') {
-        return DecimalAt::Found { q: a, next: p + 1 };
+    let a = digit_at(text, at)?;
+    if let Some(next) = past(text, at + 1, b".") {
+        return Some((a, next));
     }
     if a == 0 {
-        return DecimalAt::Nothing;
+        return None;
     }
-    let b = digit_at(text, p);
-    if 10 <= b {
-        return DecimalAt::Nothing;
-    }
-    let e = p + 1;
-    if letter_at(text, e, b'.') {
-        return DecimalAt::Found {
-            q: a * 10 + b,
-            next: e + 1,
-        };
-    }
-    DecimalAt::Nothing
+    let b = digit_at(text, at + 1)?;
+    let next = past(text, at + 2, b".")?;
+    Some((a * 10 + b, next))
 }
 
-// Seven digits after a whole part.
-fn seven_digits(text: &[u8], at: usize, whole: u64) -> DecimalAt
+// A whole part followed by seven digits, times 10^7.
+fn seven_digits(text: &[u8], at: usize, whole: u64) -> Option<(u64, usize)>
     requires { whole < 100 }
-    ensures { decimal_at text.now result ≡ more_digits 7 whole (drop at text.now) }
+    ensures { found_at text.now result ≡ more_digits 7 whole (drop at text.now) }
 {
     let mut q = whole;
-    let mut p = at;
-    let mut i = 0u64;
-    while i < 7 {
-        let d = digit_at(text, p);
-        if 10 <= d {
-            return DecimalAt::Nothing;
-        }
+    for i in 0..7 {
+        let d = digit_at(text, at + i)?;
         q = q * 10 + d;
-        p += 1;
-        i += 1;
     }
-    DecimalAt::Found { q, next: p }
+    Some((q, at + 7))
 }
 
-// A number without its sign.
-fn unsigned_at(text: &[u8], at: usize) -> DecimalAt
-    ensures { decimal_at text.now result ≡ unsigned (drop at text.now) }
+// A number without its sign, times 10^7.
+#[tactic(auto, unfolding(crate::specs::ParseFloat::unsigned))]
+fn unsigned_at(text: &[u8], at: usize) -> Option<(u64, usize)>
+    ensures { found_at text.now result ≡ unsigned (drop at text.now) }
 {
-    let DecimalAt::Found { q, next } = whole_at(text, at) else {
-        return DecimalAt::Nothing;
-    };
-    seven_digits(text, next, q)
+    let (whole, next) = whole_at(text, at)?;
+    seven_digits(text, next, whole)
 }
 
-// The place of a number's digits: behind its minus.
-fn digits_start(text: &[u8], at: usize) -> usize
-    ensures { drop result text.now ≡ unsigned_from (drop at text.now) }
+// The float of the digits at a place, with a sign.
+#[tactic(auto, unfolding(crate::specs::ParseFloat::with_sign))]
+fn signed_at(text: &[u8], at: usize, negative: bool) -> Option<(f32, usize)>
+    ensures { found_at text.now result ≡ with_sign negative (drop at text.now) }
 {
-    if letter_at(text, at, b'-') {
-        at + 1
-    } else {
-        at
-    }
+    let (q, next) = unsigned_at(text, at)?;
+    Some((nearest_f32(negative, q), next))
 }
 
 // The float at a place.
-pub fn float_at(text: &[u8], at: usize) -> FloatAt
-    ensures { float_at text.now result ≡ float (drop at text.now) }
+#[tactic(auto, unfolding(crate::specs::ParseFloat::float))]
+pub fn float_at(text: &[u8], at: usize) -> Option<(f32, usize)>
+    ensures { found_at text.now result ≡ float (drop at text.now) }
 {
-    let negative = letter_at(text, at, b'-');
-    match unsigned_at(text, digits_start(text, at)) {
-        DecimalAt::Found { q, next } => FloatAt::Found {
-            x: nearest_f32(negative, q),
-            next,
-        },
-        DecimalAt::Nothing => FloatAt::Nothing,
+    match past(text, at, b"-") {
+        Some(digits) => signed_at(text, digits, true),
+        None => signed_at(text, at, false),
     }
 }
