@@ -1,3 +1,1 @@
 pub mod ParseNames
-pub mod NamePlaces
-pub mod NamesLaws

@@ -1,152 +1,99 @@
-// The parts of an encoding read from a text, by the names that `encoding_names` gives them: three letters, or numbers.
+// The parts of an encoding read from a text, by the names that `encoding_names` gives them: three letters, or numbers. Each function answers what it
+// found and the place after it.
 
 #![tactic(auto)]
 
-ghost use Rattle.std.specs.Prelude.{◌≡◌, ◌∷◌, [], drop};
+ghost use Rattle.std.specs.Prelude.{◌≡◌, drop};
 ghost use Rattle.buffer.specs.Ascii.{ascii};
 ghost use Rattle.encoding_names.specs.Names.{semicolon};
 ghost use Rattle.scanner.specs.Scan.{mapped, after};
+ghost use Rattle.scanner.specs.Places.{found_at};
 ghost use Rattle.decimal_parser.specs.ParseFloat.{float};
 ghost use Rattle.names_parser.specs.ParseNames.{intent, pair, own_white, white, three_pairs, own_primaries, primaries, transfer};
-ghost use Rattle.names_parser.specs.NamePlaces.{intent_at, pair_at, white_at, primaries_at, transfer_at};
 
 use color_encoding::{JxlPrimaries, JxlTransferFunction, JxlWhitePoint, RenderingIntent};
-use decimal_parser::{FloatAt, float_at};
-use scanner::{name_at, past};
+use decimal_parser::float_at;
+use scanner::{past, value_at};
 
-// ---- what was found, and the place after it
+// ---- the names
 
-#[derive(Clone, Copy)]
-pub enum IntentAt {
-    Found {
-        rendering_intent: RenderingIntent,
-        next: usize,
-    },
-    Nothing,
-}
+const INTENTS: [(&str, RenderingIntent); 4] = [
+    ("Per", RenderingIntent::Perceptual),
+    ("Rel", RenderingIntent::Relative),
+    ("Sat", RenderingIntent::Saturation),
+    ("Abs", RenderingIntent::Absolute),
+];
 
-#[derive(Clone, Copy)]
-enum PairAt {
-    Found { x: f32, y: f32, next: usize },
-    Nothing,
-}
+const WHITES: [(&str, JxlWhitePoint); 3] = [
+    ("D65", JxlWhitePoint::D65),
+    ("EER", JxlWhitePoint::E),
+    ("DCI", JxlWhitePoint::DCI),
+];
 
-#[derive(Clone, Copy)]
-pub enum WhiteAt {
-    Found {
-        white_point: JxlWhitePoint,
-        next: usize,
-    },
-    Nothing,
-}
+const PRIMARIES: [(&str, JxlPrimaries); 3] = [
+    ("SRG", JxlPrimaries::SRGB),
+    ("202", JxlPrimaries::BT2100),
+    ("DCI", JxlPrimaries::P3),
+];
 
-#[derive(Clone, Copy)]
-pub enum PrimariesAt {
-    Found {
-        primaries: JxlPrimaries,
-        next: usize,
-    },
-    Nothing,
-}
-
-#[derive(Clone, Copy)]
-pub enum TransferAt {
-    Found {
-        transfer_function: JxlTransferFunction,
-        next: usize,
-    },
-    Nothing,
-}
+const TRANSFERS: [(&str, JxlTransferFunction); 6] = [
+    ("709", JxlTransferFunction::BT709),
+    ("Lin", JxlTransferFunction::Linear),
+    ("SRG", JxlTransferFunction::SRGB),
+    ("PeQ", JxlTransferFunction::PQ),
+    ("DCI", JxlTransferFunction::DCI),
+    ("HLG", JxlTransferFunction::HLG),
+];
 
 // ---- the intent
 
-pub fn intent_at(text: &[u8], at: usize) -> IntentAt
-    ensures { intent_at text.now result ≡ intent (drop at text.now) }
+#[tactic(auto, unfolding(crate::specs::ParseNames::intent))]
+pub fn intent_at(text: &[u8], at: usize) -> Option<(RenderingIntent, usize)>
+    ensures { found_at text.now result ≡ intent (drop at text.now) }
 {
-    match name_at(text, at, b"PerRelSatAbs") {
-        0 => IntentAt::Found {
-            rendering_intent: RenderingIntent::Perceptual,
-            next: at + 3,
-        },
-        1 => IntentAt::Found {
-            rendering_intent: RenderingIntent::Relative,
-            next: at + 3,
-        },
-        2 => IntentAt::Found {
-            rendering_intent: RenderingIntent::Saturation,
-            next: at + 3,
-        },
-        3 => IntentAt::Found {
-            rendering_intent: RenderingIntent::Absolute,
-            next: at + 3,
-        },
-        _ => IntentAt::Nothing,
-    }
+    value_at(text, at, &INTENTS)
 }
 
 // ---- the white point
 
 // Two numbers with a separator between them.
-fn pair_at(text: &[u8], at: usize, separator: u8) -> PairAt
-    ensures { pair_at text.now result ≡ pair (separator ∷ []) (drop at text.now) }
+#[tactic(auto, unfolding(crate::specs::ParseNames::pair))]
+fn pair_at(text: &[u8], at: usize, separator: &[u8]) -> Option<((f32, f32), usize)>
+    ensures { found_at text.now result ≡ pair separator.now (drop at text.now) }
 {
-    let FloatAt::Found { x, next } = float_at(text, at) else {
-        return PairAt::Nothing;
-    };
-    let FloatAt::Found { x: y, next: end } = float_at(text, past(text, next, separator)) else {
-        return PairAt::Nothing;
-    };
-    PairAt::Found { x, y, next: end }
+    let (x, next) = float_at(text, at)?;
+    let next = past(text, next, separator)?;
+    let (y, next) = float_at(text, next)?;
+    Some(((x, y), next))
 }
 
-fn own_white_at(text: &[u8], at: usize) -> WhiteAt
-    ensures { white_at text.now result ≡ mapped own_white (pair semicolon (drop at text.now)) }
+fn own_white_at(text: &[u8], at: usize) -> Option<(JxlWhitePoint, usize)>
+    ensures { found_at text.now result ≡ mapped own_white (pair semicolon (drop at text.now)) }
 {
-    match pair_at(text, at, b';') {
-        PairAt::Found { x, y, next } => WhiteAt::Found {
-            white_point: JxlWhitePoint::Chromaticity { wx: x, wy: y },
-            next,
-        },
-        PairAt::Nothing => WhiteAt::Nothing,
-    }
+    let ((wx, wy), next) = pair_at(text, at, b";")?;
+    Some((JxlWhitePoint::Chromaticity { wx, wy }, next))
 }
 
-pub fn white_at(text: &[u8], at: usize) -> WhiteAt
-    ensures { white_at text.now result ≡ white (drop at text.now) }
+#[tactic(auto, unfolding(crate::specs::ParseNames::white))]
+pub fn white_at(text: &[u8], at: usize) -> Option<(JxlWhitePoint, usize)>
+    ensures { found_at text.now result ≡ white (drop at text.now) }
 {
-    match name_at(text, at, b"D65EERDCI") {
-        0 => WhiteAt::Found {
-            white_point: JxlWhitePoint::D65,
-            next: at + 3,
-        },
-        1 => WhiteAt::Found {
-            white_point: JxlWhitePoint::E,
-            next: at + 3,
-        },
-        2 => WhiteAt::Found {
-            white_point: JxlWhitePoint::DCI,
-            next: at + 3,
-        },
-        _ => own_white_at(text, at),
-    }
+    value_at(text, at, &WHITES).or_else(|| own_white_at(text, at))
 }
 
 // ---- the primaries
 
-fn own_primaries_at(text: &[u8], at: usize) -> PrimariesAt
-    ensures { primaries_at text.now result ≡ mapped own_primaries (three_pairs (drop at text.now)) }
+#[tactic(auto, unfolding(crate::specs::ParseNames::three_pairs))]
+fn own_primaries_at(text: &[u8], at: usize) -> Option<(JxlPrimaries, usize)>
+    ensures { found_at text.now result ≡ mapped own_primaries (three_pairs (drop at text.now)) }
 {
-    let PairAt::Found { x: rx, y: ry, next } = pair_at(text, at, b',') else {
-        return PrimariesAt::Nothing;
-    };
-    let PairAt::Found { x: gx, y: gy, next } = pair_at(text, past(text, next, b';'), b',') else {
-        return PrimariesAt::Nothing;
-    };
-    let PairAt::Found { x: bx, y: by, next } = pair_at(text, past(text, next, b';'), b',') else {
-        return PrimariesAt::Nothing;
-    };
-    PrimariesAt::Found {
-        primaries: JxlPrimaries::Chromaticities {
+    let ((rx, ry), next) = pair_at(text, at, b",")?;
+    let next = past(text, next, b";")?;
+    let ((gx, gy), next) = pair_at(text, next, b",")?;
+    let next = past(text, next, b";")?;
+    let ((bx, by), next) = pair_at(text, next, b",")?;
+    Some((
+        JxlPrimaries::Chromaticities {
             rx,
             ry,
             gx,
@@ -155,71 +102,29 @@ fn own_primaries_at(text: &[u8], at: usize) -> PrimariesAt
             by,
         },
         next,
-    }
+    ))
 }
 
-pub fn primaries_at(text: &[u8], at: usize) -> PrimariesAt
-    ensures { primaries_at text.now result ≡ primaries (drop at text.now) }
+#[tactic(auto, unfolding(crate::specs::ParseNames::primaries))]
+pub fn primaries_at(text: &[u8], at: usize) -> Option<(JxlPrimaries, usize)>
+    ensures { found_at text.now result ≡ primaries (drop at text.now) }
 {
-    match name_at(text, at, b"SRG202DCI") {
-        0 => PrimariesAt::Found {
-            primaries: JxlPrimaries::SRGB,
-            next: at + 3,
-        },
-        1 => PrimariesAt::Found {
-            primaries: JxlPrimaries::BT2100,
-            next: at + 3,
-        },
-        2 => PrimariesAt::Found {
-            primaries: JxlPrimaries::P3,
-            next: at + 3,
-        },
-        _ => own_primaries_at(text, at),
-    }
+    value_at(text, at, &PRIMARIES).or_else(|| own_primaries_at(text, at))
 }
 
 // ---- the transfer function
 
-fn gamma_at(text: &[u8], at: usize) -> TransferAt
-    ensures { transfer_at text.now result ≡ mapped JxlTransferFunction.Gamma (after (ascii "g") float (drop at text.now)) }
+fn gamma_at(text: &[u8], at: usize) -> Option<(JxlTransferFunction, usize)>
+    ensures { found_at text.now result ≡ mapped JxlTransferFunction.Gamma (after (ascii "g") float (drop at text.now)) }
 {
-    match float_at(text, past(text, at, b'g')) {
-        FloatAt::Found { x, next } => TransferAt::Found {
-            transfer_function: JxlTransferFunction::Gamma(x),
-            next,
-        },
-        FloatAt::Nothing => TransferAt::Nothing,
-    }
+    let next = past(text, at, b"g")?;
+    let (g, next) = float_at(text, next)?;
+    Some((JxlTransferFunction::Gamma(g), next))
 }
 
-pub fn transfer_at(text: &[u8], at: usize) -> TransferAt
-    ensures { transfer_at text.now result ≡ transfer (drop at text.now) }
+#[tactic(auto, unfolding(crate::specs::ParseNames::transfer))]
+pub fn transfer_at(text: &[u8], at: usize) -> Option<(JxlTransferFunction, usize)>
+    ensures { found_at text.now result ≡ transfer (drop at text.now) }
 {
-    match name_at(text, at, b"709LinSRGPeQDCIHLG") {
-        0 => TransferAt::Found {
-            transfer_function: JxlTransferFunction::BT709,
-            next: at + 3,
-        },
-        1 => TransferAt::Found {
-            transfer_function: JxlTransferFunction::Linear,
-            next: at + 3,
-        },
-        2 => TransferAt::Found {
-            transfer_function: JxlTransferFunction::SRGB,
-            next: at + 3,
-        },
-        3 => TransferAt::Found {
-            transfer_function: JxlTransferFunction::PQ,
-            next: at + 3,
-        },
-        4 => TransferAt::Found {
-            transfer_function: JxlTransferFunction::DCI,
-            next: at + 3,
-        },
-        5 => TransferAt::Found {
-            transfer_function: JxlTransferFunction::HLG,
-            next: at + 3,
-        },
-        _ => gamma_at(text, at),
-    }
+    value_at(text, at, &TRANSFERS).or_else(|| gamma_at(text, at))
 }
