@@ -1,4 +1,3 @@
 pub mod Language
 pub mod Parse
-pub mod Parsed
 pub mod StepLaws

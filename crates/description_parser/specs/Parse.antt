@@ -47,6 +47,11 @@ gray_fields l = joined (joined (after (ascii "Gra_") white) underscore intent) u
 abbrev pub gray_of : GrayFields → JxlColorEncoding
 gray_of ((w, i), t) = GrayscaleColorSpace w t i
 
+-- the end of a long form: the intent and the curve, an underscore before each
+unfoldable pub ending : List ℕ → Found (RenderingIntent × JxlTransferFunction)
+unfolding intent transfer
+ending l = joined (after underscore intent) underscore transfer l
+
 -- ---- the whole
 
 -- those that have a common name

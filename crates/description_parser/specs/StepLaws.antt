@@ -1,27 +1,21 @@
--- The long forms, by what is found part after part. Assumes nothing.
-use Rattle.std.specs.Prelude.{ℕ, zero, suc, ◌*◌, ◌≤◌, ◌<◌, ◌≡◌, refl, Bool, true, false, cond, ◌&&◌, ◌||◌, List, [], ◌∷◌, eqb, Float, length, take, drop}
-use Rattle.std.proofs.Common.{mul-one, zero-mul, mul-pos, zero-lt-suc, arith, sym, ◌∙◌, eq-eqb, ne_eqb, drop-cons}
+-- The long forms, by what is found part after part; and a gamma that is zero. Assumes nothing.
+use Rattle.std.specs.Prelude.{ℕ, zero, suc, ◌*◌, ◌≤◌, ◌<◌, ◌≡◌, refl, Bool, true, false, cond, ◌&&◌, ◌||◌, List, [], ◌∷◌, eqb, Float, length, drop}
+use Rattle.std.proofs.Common.{mul-one, zero-mul, mul-pos, zero-lt-suc, arith, ◌∙◌, eq-eqb, ne_eqb, drop-cons, drop_of_length-le}
 use Rattle.std.proofs.Math.Path.{ap}
 use Rattle.std.specs.Bool.{beq}
 use Rattle.std.specs.Float.{nan, inf, fin, binary32}
 use Rattle.std.specs.Float.Ieee.{up, down, level, eq, of_bits}
 use Rattle.std.specs.Float.Ieee.Fits.{up_pos}
 use Rattle.buffer.specs.Ascii.{ascii}
-use Rattle.buffer.specs.Checked.{refused}
-use Rattle.color_encoding.specs.declared.RenderingIntent.{RenderingIntent}
+use Rattle.buffer.specs.Checked.{is, refused}
 use Rattle.color_encoding.specs.declared.JxlWhitePoint.{JxlWhitePoint}
 use Rattle.color_encoding.specs.declared.JxlPrimaries.{JxlPrimaries}
-use Rattle.color_encoding.specs.declared.JxlTransferFunction.{JxlTransferFunction}
 use Rattle.color_encoding.specs.declared.JxlColorEncoding.{JxlColorEncoding}
-use Rattle.text.specs.Description.{underscore, description}
-use Rattle.scanner.specs.Scan.{Found, nothing, found, and_then, or_else, mapped, starts_with, after, joined, any_of}
-use Rattle.scanner.specs.Places.{behind}
-use Rattle.scanner.specs.PlacesLaws.{joined_none, joined_step}
+use Rattle.text.specs.Description.{underscore}
+use Rattle.scanner.specs.Scan.{Found, nothing, found, and_then, mapped, after, joined}
 use Rattle.names_parser.specs.ParseNames.{intent, white, primaries, transfer}
-use Rattle.names_parser.specs.NamesLaws.{primaries_end}
-use Rattle.description_parser.specs.Language.{is_zero}
-use Rattle.description_parser.specs.Parsed.{ending}
-use Rattle.description_parser.specs.Parse.{RgbFields, rgb_fields, unless_named, rgb_of, rgb, GrayFields, gray_fields, gray_of, gray, not_in_language, answer}
+use Rattle.description_parser.specs.Language.{is_zero, zero_gamma}
+use Rattle.description_parser.specs.Parse.{RgbFields, rgb_fields, unless_named, rgb_of, rgb, GrayFields, gray_fields, gray_of, gray, ending, not_in_language, gamma_is_zero, answer}
 
 -- ---- three parts: what follows the first
 
@@ -45,82 +39,44 @@ module _ {A B C : Type 0} (f : List ℕ → Found A) (n : List ℕ) (g : List �
       second nothing = refl
       second (found b s) = last b (after m h s)
 
--- ---- RGB
+-- the white and the primaries of a long form
+abbrev pub rgb_primaries : List ℕ → Found (JxlWhitePoint × JxlPrimaries)
+rgb_primaries = joined (after (ascii "RGB_") white) underscore primaries
 
 module _ (l : List ℕ) where
-  abbrev rgb_white : List ℕ → Found JxlWhitePoint
-  rgb_white = after (ascii "RGB_") white
-
-  abbrev rgb_primaries : List ℕ → Found (JxlWhitePoint × JxlPrimaries)
-  rgb_primaries = joined rgb_white underscore primaries
-
   -- without a white or primaries there is no RGB encoding
-  missing : rgb_primaries l ≡ nothing → rgb l ≡ nothing
+  pub rgb_none : rgb_primaries l ≡ nothing → rgb l ≡ nothing
   unfolding rgb rgb_fields
-  missing e = ap (λ (x : Found RgbFields). and_then x rgb_of) (joined_none (joined rgb_primaries underscore intent) underscore transfer l (joined_none rgb_primaries underscore intent l e))
+  rgb_none e =
+      ap (λ (x : Found (JxlWhitePoint × JxlPrimaries)). and_then (and_then (and_then x (λ a m. mapped (λ b. (a, b)) (after underscore intent m))) (λ a m. mapped (λ b. (a, b)) (after underscore transfer m))) rgb_of) e
 
-  pub rgb_no_white : rgb_white l ≡ nothing → rgb l ≡ nothing
-  rgb_no_white e = missing (joined_none rgb_white underscore primaries l e)
+  -- what stands behind the primaries
+  pub rgb_ends : {w : JxlWhitePoint} {p : JxlPrimaries} {o : List ℕ} → rgb_primaries l ≡ found (w, p) o → rgb l ≡ and_then (mapped {B = RgbFields} (λ q. (((w, p), q.0), q.1)) (ending o)) rgb_of
+  unfolding rgb rgb_fields ending
+  rgb_ends e = ap (λ (x : Found RgbFields). and_then x rgb_of) (joined_rest rgb_primaries underscore intent underscore transfer l e)
 
-  module _ {w : JxlWhitePoint} {m : List ℕ} (e : rgb_white l ≡ found w m) where
-    pub rgb_no_primaries : primaries (behind underscore m) ≡ nothing → rgb l ≡ nothing
-    rgb_no_primaries h = missing (joined_step rgb_white underscore primaries l primaries_end e h)
-
-    pub rgb_ends : {p : JxlPrimaries} {o : List ℕ} {y : Found (RenderingIntent × JxlTransferFunction)} → primaries (behind underscore m) ≡ found p o → ending o ≡ y
-        → rgb l ≡ and_then (mapped {B = RgbFields} (λ q. (((w, p), q.0), q.1)) y) rgb_of
-    unfolding rgb rgb_fields ending
-    rgb_ends {p} h k =
-        ap (λ (x : Found RgbFields). and_then x rgb_of)
-        (joined_rest rgb_primaries underscore intent underscore transfer l (joined_step rgb_white underscore primaries l primaries_end e h) ∙ ap (mapped (beside rgb_primaries underscore intent underscore transfer l (w, p))) k)
-
--- ---- gray
-
-module _ (l : List ℕ) where
-  abbrev gray_white : List ℕ → Found JxlWhitePoint
-  gray_white = after (ascii "Gra_") white
-
-  pub gray_no_white : gray_white l ≡ nothing → gray l ≡ nothing
-  unfolding gray gray_fields
-  gray_no_white e = ap (mapped gray_of) (joined_none (joined gray_white underscore intent) underscore transfer l (joined_none gray_white underscore intent l e))
-
-  pub gray_ends : {w : JxlWhitePoint} {m : List ℕ} {y : Found (RenderingIntent × JxlTransferFunction)} → gray_white l ≡ found w m → ending m ≡ y
-      → gray l ≡ mapped gray_of (mapped {B = GrayFields} (λ q. ((w, q.0), q.1)) y)
+  -- and behind a gray white
+  pub gray_ends : {w : JxlWhitePoint} {m : List ℕ} → after (ascii "Gra_") white l ≡ found w m → gray l ≡ mapped gray_of (mapped {B = GrayFields} (λ q. ((w, q.0), q.1)) (ending m))
   unfolding gray gray_fields ending
-  gray_ends {w} e k = ap (mapped gray_of) (joined_rest gray_white underscore intent underscore transfer l e ∙ ap (mapped (beside gray_white underscore intent underscore transfer l w)) k)
-
--- ---- a common name
+  gray_ends e = ap (mapped gray_of) (joined_rest (after (ascii "Gra_") white) underscore intent underscore transfer l e)
 
 -- nothing where there is a name
-pub replaced : (n : ℕ) (letters : List ℕ) (e : JxlColorEncoding) (l : List ℕ) → (n ≡ 0 → ⊥) → n ≤ length letters → unless_named (take n letters) e l ≡ nothing
-replaced zero letters e l some h = absurd (some refl)
-replaced (suc n) [] e l some h = absurd (no n h)
+pub replaced : (name : List ℕ) (e : JxlColorEncoding) (l : List ℕ) → 0 < length name → unless_named name e l ≡ nothing
+replaced [] e l h = absurd (no h)
   where
-    no : (n : ℕ) → suc n ≤ 0 → ⊥
-    no n h = omega arith
-replaced (suc n) (c ∷ letters) e l some h = refl
-
--- ---- the common names in turn
-
-module _ (e : JxlColorEncoding) (others : List JxlColorEncoding) (l : List ℕ) where
-  pub name_here : starts_with (description e) l ≡ true → found e (drop (length (description e)) l) ≡ any_of description (e ∷ others) l
-  name_here h = sym (ap (λ (t : Bool). or_else (cond t (found e (drop (length (description e)) l)) nothing) (any_of description others l)) h)
-
-  pub name_later : starts_with (description e) l ≡ false → any_of description others l ≡ any_of description (e ∷ others) l
-  name_later h = sym (ap (λ (t : Bool). or_else (cond t (found e (drop (length (description e)) l)) nothing) (any_of description others l)) h)
+    no : 0 < 0 → ⊥
+    no h = omega arith
+replaced (c ∷ name) e l h = refl
 
 -- ---- what follows
 
 -- a text that goes on behind an encoding is none of the language
-pub more_left : (e : JxlColorEncoding) (n : ℕ) (text : List ℕ) → n < length text → refused not_in_language ≡ answer (found e (drop n text))
-more_left e n text h = sym (ap (λ (r : List ℕ). answer (found e r)) (drop-cons text n 0 h))
+pub more_left : (e : JxlColorEncoding) (n : ℕ) (text : List ℕ) → n < length text → answer (found e (drop n text)) ≡ refused not_in_language
+more_left e n text h = ap (λ (r : List ℕ). answer (found e r)) (drop-cons text n 0 h)
 
--- ---- the first of two
-
-pub first_of : {A : Type 0} {x : Found A} (y : Found A) {a : A} {r : List ℕ} → x ≡ found a r → x ≡ or_else x y
-first_of {A} y e = e ∙ sym (ap (λ (f : Found A). or_else f y) e)
-
-pub second_of : {A : Type 0} {x : Found A} (y : Found A) → x ≡ nothing → y ≡ or_else x y
-second_of {A} y e = sym (ap (λ (f : Found A). or_else f y) e)
+-- where it ends, the answer goes by the gamma
+pub ends : (e : JxlColorEncoding) (n : ℕ) (text : List ℕ) → length text ≤ n → answer (found e (drop n text)) ≡ cond (zero_gamma e) (refused gamma_is_zero) (is e)
+ends e n text h = ap (λ (r : List ℕ). answer (found e r)) (drop_of_length-le text h)
 
 -- ---- a gamma that is zero
 
