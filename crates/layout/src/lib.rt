@@ -32,7 +32,7 @@ pub fn put_plan(out: &mut [u8], plan: Numbers, text: &[u8], size: usize) -> usiz
     requires { (ListN.length text.now ≤ max_letters) × (size ≡ ListN.length (layout (plan_of plan text.now))) × (size ≤ ListN.length out.old) }
     ensures { PutsText out.old 0 (layout (plan_of plan text.now)) result out.new }
 {
-    let kind = plan.kind;
+    let kind = plan.content.kind();
     let shape = profile::shape_of(plan, text.len());
     create_icc_header(out, size as u32, kind, plan.maker, plan.model);
     let at = tag_table::put_table(out, shape);

@@ -1,6 +1,5 @@
 -- Header and table begin the layout (`begun`), which then covers them (`covered`). What fits is known from the sizes (`fits`).
 -- Assumes nothing.
-use borrow.Author.Rules.{rules}
 use Prim.Native.Nat.{◌≤◌}
 use mathlib.Core.Path.{◌≡◌, refl, sym, ◌∙◌}
 use mathlib.Core.List.{◌++◌}
@@ -12,6 +11,7 @@ use Rattle.profile.specs.Elements.{table, file_length}
 use Rattle.profile.specs.Numbers.{plan_of}
 use Rattle.profile.specs.Plan.{Plan, max_letters}
 use Rattle.profile.specs.PlanLaws.{Nines, kind_by_lem, letters_by, nines_by}
+use Rattle.profile.proofs.HeldContent.{held_numbers}
 use Rattle.profile.specs.LayoutLaws.{length-layout}
 use Rattle.profile.specs.Shape.{shape, slots_of}
 use Rattle.layout.specs.Begun.{Begun}
@@ -24,7 +24,7 @@ module _ (s : Start) where
   plan = plan_of s.args.plan s.args.text.now
 
   nines : Nines plan.content
-  nines = nines_by s.args.plan s.args.text.now (search rules) (search rules)
+  nines = nines_by s.args.plan s.args.text.now (held_numbers s.args.plan _ s.well_formed.1.0)
 
   letters : (shape plan).letters ≤ max_letters
   letters = letters_by s.args.plan s.args.text.now s.requires.0
@@ -42,7 +42,7 @@ module _ (c : After-put_table-at) where
   front : Begun (plan (goal.at.After-put_table-at c).Start) c.put_table-at.new.out c.put_table-at.result c.args.size
       × (c.put_table-at.new.out ≡ put c.args.out.now 0 (blank (plan (goal.at.After-put_table-at c).Start) c.args.size ++ table (slots_of (shape (plan (goal.at.After-put_table-at c).Start)))))
   front =
-      begun-with (plan (goal.at.After-put_table-at c).Start) c.args.out.now (room (goal.at.After-put_table-at c).Start) (size (goal.at.After-put_table-at c).Start) (rw (kind_by_lem c.args.plan c.args.text.now) c.create_icc_header.ensures)
+      begun-with (plan (goal.at.After-put_table-at c).Start) c.args.out.now (room (goal.at.After-put_table-at c).Start) (size (goal.at.After-put_table-at c).Start) (rw (kind_by_lem c.args.plan c.args.text.now, ← c.kind-kind.ensures) c.create_icc_header.ensures)
       (rw (shape_is (goal.at.After-put_table-at c).After-shape_of-shape) at c.put_table-at.ensures)
 
 pub overflow_cast-size : goal.overflow_cast-size
