@@ -4,7 +4,7 @@ use mathlib.Core.Path.{◌≡◌, refl, sym, ap, ◌∙◌, subst}
 use mathlib.Core.Bool.{Bool, true, false, cond}
 use mathlib.Core.List.{List, ◌++◌}
 use native.Mathlib.Omega.{arith}
-use lib.Dec.{T, leb, eqb, leb→le}
+use lib.Dec.{T, leb, leb→le}
 use lib.Ieee.{Float}
 use lib.ListN.{length, take, replicate, length-append}
 use lib.Seq.{take_at}
@@ -14,20 +14,15 @@ use borrow.Author.Tests.{le-leb, lt-leb}
 use Rattle.buffer.specs.Buffer.{put}
 use Rattle.buffer.specs.Checked.{Checked, is, refused}
 use Rattle.buffer.specs.CheckedLaws.{never}
-use Rattle.numbers.specs.Rounded.{rounded_in, Counted, counted}
-use Rattle.numbers.specs.RoundedLaws.{counted_value}
-use Rattle.color_encoding.specs.declared.JxlColorEncoding.{JxlColorEncoding}
-use Rattle.text.specs.Description.{description}
+use Rattle.numbers.specs.declared.fixed.Counted.{Counted}
+use Rattle.numbers.specs.Rounded.{rounded_in, counted}
 use Rattle.profile.specs.Plan.{Plan, max_letters}
-use Rattle.profile.specs.Numbers as Plans
 use Rattle.profile.specs.Shape.{shape}
 use Rattle.profile.specs.PlanLaws.{Nines, at_most}
 use Rattle.profile.specs.Layout.{layout}
 use Rattle.profile.specs.LayoutLaws.{length-layout}
-use Rattle.encoding_plan.specs.Answers.{checked_plan}
-use Rattle.encoding_plan.specs.declared.EncodingPlan.{EncodingPlan}
-use Rattle.writer.specs.Writer.{answer, output, too_short}
-use Rattle.writer.specs.declared.Profile.TheVariants.{Written, Refused}
+use Rattle.writer.specs.Writer.{profile, answer, output, number, too_short}
+use Rattle.writer.specs.declared.Written.{Written}
 
 -- the letters of a description that stands in front of zeros
 pub letters : (d : List ℕ) {bytes : List ℕ} (z : ℕ) {n : ℕ} → n ≡ length d → bytes ≡ d ++ replicate z 0 → take n bytes ≡ d
@@ -42,58 +37,34 @@ short_layout p h s {r} e = record { fits = omega (arith, e, length-layout p h, a
 
 -- ---- the answer on an output of n bytes, where the layout has `size`
 
-pub too_short_lem : (p : Counted Plan) (n size : ℕ) → size ≡ length (layout p.value) → n < size → Refused too_short ≡ answer (is p) n
+pub too_short_lem : (p : Counted Plan) (n size : ℕ) → size ≡ length (layout p.value) → n < size → refused too_short ≡ answer (is p) n
 too_short_lem p n size e h = let less : n < length (layout p.value) = rw e at h in simp (lt-leb _ _ less)
 
-pub enough : (p : Counted Plan) (n size : ℕ) → size ≡ length (layout p.value) → size ≤ n → Written size p.rounded ≡ answer (is p) n
-enough p n size e h = let room : length (layout p.value) ≤ n = rw e at h in ap (λ (m : ℕ). Written m p.rounded) e ∙ simp (le-leb _ _ room)
+pub enough : (p : Counted Plan) (n size : ℕ) → size ≡ length (layout p.value) → size ≤ n → profile size p.rounded ≡ answer (is p) n
+enough p n size e h = let room : length (layout p.value) ≤ n = rw e at h in ap (λ (m : ℕ). profile m p.rounded) e ∙ simp (le-leb _ _ room)
 
 -- ---- what an answer tells
 
--- a refusal is no length
-differ : {k n m : ℕ} → Refused k ≡ Written n m → ⊥
-differ e = let zero_one : ◌≡◌ {A = ℕ} 0 1 = cc in omega arith
-
--- where it is a length, there is a plan, whose layout has it and fits
-pub record Accepted (c : Checked Plan) (n size : ℕ) : Type 0 where
-  pub plan : Plan
-  pub is_plan : c ≡ is plan
-  pub size_is : size ≡ length (layout plan)
-  pub room : size ≤ n
-
-pub accepted : (xs : List Float) (c : Checked Plan) (n : ℕ) {size m : ℕ} → answer (counted xs c) n ≡ Written size m → Accepted c n size
-accepted xs (refused k) n e = absurd (differ e)
-accepted xs (is p) n {size} {m} e = go (leb (length (layout p)) n) refl e
+-- of a plan that is written: the length is that of its layout, and fits
+pub fits : (xs : List Float) {c : Checked Plan} {p : Plan} (n : ℕ) {w : Written} → c ≡ is p → is w ≡ answer (counted xs c) n
+    → (w.length ≡ length (layout p)) × (length (layout p) ≤ n)
+fits xs {c} {p} n {w} h e = go (leb (length (layout p)) n) refl (e ∙ ap (λ (d : Checked Plan). answer (counted xs d) n) h)
   where
-    go : (b : Bool) → leb (length (layout p)) n ≡ b → cond b (Written (length (layout p)) (rounded_in xs)) (Refused too_short) ≡ Written size m → Accepted (is p) n size
-    go true h e =
-        let same : size ≡ length (layout p) = cc in
-        record { plan = p; is_plan = refl; size_is = same; room = rw same (leb→le (length (layout p)) n (subst T (sym h) tt)) }
-    go false h e = absurd (differ e)
-
--- the numbers that were worked out are that plan's
-pub same_plan : (r : EncodingPlan) (e : JxlColorEncoding) (xs : List Float) {p : Plan} → checked_plan r e ≡ counted xs (is p) → Plans.plan_of r.plan (description e) ≡ p
-same_plan r e xs {p} h = go (eqb r.refusal 0) h
-  where
-    planned : Counted Plan
-    planned = record { value = Plans.plan_of r.plan (description e); rounded = r.rounded }
-
-    go : (b : Bool) → cond b (is planned) (refused r.refusal) ≡ counted xs (is p) → Plans.plan_of r.plan (description e) ≡ p
-    go true h = let same : is p ≡ is (Plans.plan_of r.plan (description e)) = counted_value xs (is p) h in cc same
-    go false h = absurd (never h)
+    go : (b : Bool) → leb (length (layout p)) n ≡ b → is w ≡ cond b (profile (length (layout p)) (rounded_in xs)) (refused too_short)
+        → (w.length ≡ length (layout p)) × (length (layout p) ≤ n)
+    go true t e = (ap number e, leb→le (length (layout p)) n (subst T (sym t) tt))
+    go false t e = absurd (never (sym e))
 
 -- ---- what is left in the output
 
-pub laid_out : (c : Checked Plan) (out left : List ℕ) {size : ℕ} (a : Accepted c (length out) size) → left ≡ put out 0 (layout a.plan) → left ≡ output c out
-laid_out c out left {size} a h =
-    let room : length (layout a.plan) ≤ length out = rw a.size_is at a.room in
-    rw a.is_plan (h ∙ simp (le-leb _ _ room))
+pub laid_out : {c : Checked Plan} {p : Plan} (out left : List ℕ) → c ≡ is p → length (layout p) ≤ length out → left ≡ put out 0 (layout p) → left ≡ output c out
+laid_out out left e room h = rw e (h ∙ simp (le-leb _ _ room))
 
 -- on a refusal nothing is
-pub untouched : (xs : List Float) (c : Checked Plan) (out : List ℕ) {k : ℕ} → answer (counted xs c) (length out) ≡ Refused k → out ≡ output c out
+pub untouched : (xs : List Float) (c : Checked Plan) (out : List ℕ) {k : ℕ} → refused k ≡ answer (counted xs c) (length out) → out ≡ output c out
 untouched xs (refused j) out e = refl
 untouched xs (is p) out {k} e = go (leb (length (layout p)) (length out)) e
   where
-    go : (b : Bool) → cond b (Written (length (layout p)) (rounded_in xs)) (Refused too_short) ≡ Refused k → out ≡ cond b (put out 0 (layout p)) out
-    go true e = absurd (differ (sym e))
+    go : (b : Bool) → refused k ≡ cond b (profile (length (layout p)) (rounded_in xs)) (refused too_short) → out ≡ cond b (put out 0 (layout p)) out
+    go true e = absurd (never e)
     go false e = refl

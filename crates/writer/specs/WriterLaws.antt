@@ -11,20 +11,19 @@ use Rattle.encoding_plan.specs.FixedFloats.{color_floats, counted_color_plan, co
 use Rattle.encoding_plan.specs.EncodingPlan.{plain_encoding, encoding_plan, counted_encoding_plan}
 use Rattle.encoding_plan.specs.EncodingPlanLaws.{plain_plan_lem, plain_counted}
 use Rattle.encoding_plan.specs.declared.Encoding.{Encoding}
-use Rattle.writer.specs.Writer.{answer, output, too_short, Creates}
-use Rattle.writer.specs.declared.Profile.{Profile}
-use Rattle.writer.specs.declared.Profile.TheVariants.{Written, Refused}
+use Rattle.writer.specs.Writer.{profile, answer, output, too_short, Creates}
+use Rattle.writer.specs.declared.Written.{Written}
 
 pub any_device : (e : Encoding) (n : ℕ) → answer (counted_encoding_plan e) n ≡ answer (counted_color_plan e.adapted e.color) n
 any_device e n = go (color_plan e.adapted e.color)
   where
     go : (c : Checked Plan) → let xs = color_floats e.adapted e.color in answer (counted xs (then c (λ p. is (with_device e.maker e.model p)))) n ≡ answer (counted xs c) n
-    go (is p) = ap (λ (m : ℕ). cond (leb m n) (Written m (rounded_in (color_floats e.adapted e.color))) (Refused too_short)) (length-device p e.maker e.model)
+    go (is p) = ap (λ (m : ℕ). cond (leb m n) (profile m (rounded_in (color_floats e.adapted e.color))) (refused too_short)) (length-device p e.maker e.model)
     go (refused k) = refl
 
 -- ---- with zeros it is the plan of the color encoding that is written
 
-pub plain_writes : {e : Encoding} {c : JxlColorEncoding} {before after : List ℕ} {r : Profile} → e ≡ plain_encoding c → Creates e before after r
+pub plain_writes : {e : Encoding} {c : JxlColorEncoding} {before after : List ℕ} {r : Checked Written} → e ≡ plain_encoding c → Creates e before after r
     → (r ≡ answer (counted_plan c) (length before)) × (after ≡ output (plan_of c) before)
 plain_writes {c = c} {before = before} same w = (
   w.writes.answer ∙ ap (λ (x : Encoding). answer (counted_encoding_plan x) (length before)) same ∙ ap (λ p. answer p (length before)) (plain_counted c),

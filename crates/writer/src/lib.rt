@@ -4,51 +4,50 @@
 
 ghost use Rattle.std.specs.Prelude.{◌≡◌, length, ◌≤◌};
 ghost use Rattle.buffer.specs.Buffer.{put};
+ghost use Rattle.buffer.specs.Checked.{is};
+ghost use Rattle.refusals.specs.Refusals.{checked};
 ghost use Rattle.profile.specs.Layout.{layout};
 ghost use Rattle.profile.specs.Numbers as Plans;
 ghost use Rattle.text.specs.Description.{description};
 ghost use Rattle.text.specs.Held.{WhiteInRange};
-ghost use Rattle.encoding_plan.specs.Answers.{checked_plan};
+ghost use Rattle.encoding_plan.specs.Answers.{described};
 ghost use Rattle.encoding_plan.specs.FixedFloats.{counted_color_plan};
 ghost use Rattle.writer.specs.Writer.{answer, MeasuresProfile, Creates};
 
 use color_encoding::JxlColorEncoding;
-use encoding_plan::{Encoding, EncodingPlan};
+use encoding_plan::Encoding;
+use numbers::Counted;
 use profile::Numbers;
-
-// The refusal of an output that is shorter than what is to be written.
-pub const TOO_SHORT: u32 = 9;
+use refusals::Refusal;
 
 // The most bytes that any profile has.
 pub const MAX_WRITTEN: usize = 1200;
 
-// What the writer answers: the length of the profile that it wrote and how many of its fixed numbers were rounded, or the first number of the
-// refusal list that applies.
-#[derive(Clone, Copy)]
-pub enum Profile {
-    Written { length: u32, rounded: u32 },
-    Refused(u32),
+// The length of a written profile and how many of its fixed numbers were rounded.
+#[derive(Clone, Copy, Debug, PartialEq, Eq)]
+pub struct Written {
+    pub length: u32,
+    pub rounded: u32,
 }
 
-// What the writer answers where the output has `capacity` bytes. Here alone it is decided.
-fn answer(encoding: Encoding, planned: EncodingPlan, capacity: usize) -> Profile
-    requires { checked_plan planned encoding.color ≡ counted_color_plan encoding.adapted encoding.color }
-    ensures { result ≡ answer (counted_color_plan encoding.adapted encoding.color) capacity }
+// What the writer answers to a plan where the output has `capacity` bytes. Here alone it is decided.
+fn answer(
+    encoding: Encoding,
+    planned: Counted<Numbers>,
+    capacity: usize,
+) -> Result<Written, Refusal>
+    requires { described encoding.color (is planned) ≡ counted_color_plan encoding.adapted encoding.color }
+    ensures { checked result ≡ answer (counted_color_plan encoding.adapted encoding.color) capacity }
 {
-    if planned.refusal != 0 {
-        return Profile::Refused(planned.refusal);
-    }
-    let plan = planned.plan;
-    let color = encoding.color;
-    let letters = description_length::description_length(color);
-    let size = layout::length(profile::shape_of(plan, letters));
+    let letters = description_length::description_length(encoding.color);
+    let size = layout::length(profile::shape_of(planned.value, letters));
     if capacity < size {
-        return Profile::Refused(TOO_SHORT);
+        return Err(Refusal::TooShort);
     }
-    Profile::Written {
+    Ok(Written {
         length: size as u32,
         rounded: planned.rounded,
-    }
+    })
 }
 
 // Lays the plan of an encoding out, whose profile has `size` bytes.
@@ -62,31 +61,21 @@ fn put_profile(encoding: JxlColorEncoding, plan: Numbers, size: usize, out: &mut
 }
 
 // What `maybe_create_profile` answers where the output has `capacity` bytes: the profile's length, before there is memory for it.
-pub fn profile_length(encoding: Encoding, capacity: usize) -> Profile
-    ensures { MeasuresProfile encoding capacity result }
+pub fn profile_length(encoding: Encoding, capacity: usize) -> Result<Written, Refusal>
+    ensures { MeasuresProfile encoding capacity (checked result) }
 {
-    let color = encoding.color;
-    answer(
-        encoding,
-        encoding_plan::plan_of(color, encoding.adapted),
-        capacity,
-    )
+    let planned = encoding_plan::plan_of(encoding.color, encoding.adapted)?;
+    answer(encoding, planned, capacity)
 }
 
 // Writes the profile of an encoding, with its maker and model, to the front of the output. On a refusal no byte of the output changes.
-pub fn maybe_create_profile(encoding: Encoding, out: &mut [u8]) -> Profile
-    ensures { Creates encoding out.old out.new result }
+pub fn maybe_create_profile(encoding: Encoding, out: &mut [u8]) -> Result<Written, Refusal>
+    ensures { Creates encoding out.old out.new (checked result) }
 {
     let color = encoding.color;
-    let planned = encoding_plan::plan_of(color, encoding.adapted);
-    let answered = answer(encoding, planned, out.len());
-    if let Profile::Written {
-        length: size,
-        rounded: _,
-    } = answered
-    {
-        let plan = profile::with_device(planned.plan, encoding.maker, encoding.model);
-        put_profile(color, plan, size as usize, out);
-    }
-    answered
+    let planned = encoding_plan::plan_of(color, encoding.adapted)?;
+    let written = answer(encoding, planned, out.len())?;
+    let plan = planned.value.with_device(encoding.maker, encoding.model);
+    put_profile(color, plan, written.length as usize, out);
+    Ok(written)
 }
