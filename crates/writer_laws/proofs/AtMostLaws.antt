@@ -1,49 +1,28 @@
 -- The longest file of each kind: 1,200 bytes, of RGB with a gamma and the longest text. Assumes nothing.
-use Rattle.std.specs.Prelude.{ℕ, ◌≤◌, ◌≡◌, Bool, true, false, cond, List, [], ◌∷◌, ◌++◌, length, Float}
-use Rattle.std.proofs.Math.Path.{refl}
-use Rattle.std.proofs.Common.{ap, ◌∙◌, arith, lit≤, length-append}
-use Rattle.std.specs.Float.{binary32}
-use Rattle.std.specs.Float.Ieee.{size, of_bits}
-use Rattle.std.specs.Float.Ieee.Bits.{of_bits-fits}
+use Rattle.std.specs.Prelude.{ℕ, ◌≤◌, ◌≡◌, Bool, false, length}
+use Rattle.std.proofs.Common.{lit≤}
 use Rattle.buffer.specs.Checked.{is}
-use Rattle.buffer.specs.CheckedLaws.{never, both}
-use Rattle.numbers.specs.Fixed.{fixed_or}
-use Rattle.color_encoding.specs.Intent.{intent_name}
-use Rattle.color_encoding.specs.declared.RenderingIntent.{RenderingIntent}
 use Rattle.color_encoding.specs.Coordinates.{white_xy, primaries_xy}
-use Rattle.color_encoding.specs.declared.RenderingIntent.TheVariants.{Perceptual, Relative}
 use Rattle.color_encoding.specs.declared.JxlWhitePoint.{JxlWhitePoint}
-use Rattle.color_encoding.specs.declared.JxlWhitePoint.TheVariants as W
 use Rattle.color_encoding.specs.declared.JxlPrimaries.{JxlPrimaries}
-use Rattle.color_encoding.specs.declared.JxlPrimaries.TheVariants as P
-use Rattle.color_encoding.specs.declared.JxlTransferFunction.{JxlTransferFunction}
-use Rattle.color_encoding.specs.declared.JxlTransferFunction.TheVariants as F
 use Rattle.color_encoding.specs.declared.JxlColorEncoding.{JxlColorEncoding}
 use Rattle.color_encoding.specs.declared.JxlColorEncoding.TheVariants.{RgbColorSpace, GrayscaleColorSpace, XYB}
-use Rattle.decimal.specs.Seven.{seven_decimals, with_point}
-use Rattle.digits.specs.Digits.{digits, digits_up_to, last_digits}
-use Rattle.text.specs.Description.{underscore, white_name, primaries_name, transfer_name, rgb_text, rgb_description, description, srgb, display_p3, rec2100_pq, rec2100_hlg, matches}
-use Rattle.text.specs.Held.{HeldEncoding, HeldPrimaries, InRange}
+use Rattle.text.specs.Description.{description}
+use Rattle.text.specs.Held.{HeldEncoding}
 use Rattle.text.specs.Bounds.{length-in_range}
-use Rattle.text.specs.BoundsLaws.{length-white_in_range, length-rgb_text}
-use Rattle.profile.specs.Plan.{Plan, max_letters, InRange as NumberInRange}
+use Rattle.profile.specs.Plan.{Plan, InRange as NumberInRange}
 use Rattle.profile.specs.PlanLaws.{white_nines}
 use Rattle.profile.specs.Layout.{layout}
 use Rattle.profile.specs.LayoutLaws.{length-layout}
 use Rattle.profile.specs.Elements.{file_length, start, body_size, tag_count, padding}
 use Rattle.profile.specs.Shape.{is_gamma, has_cicp, is_adapted, slots_of}
-use Rattle.profile.specs.declared.Kind.TheVariants.{Gray, Rgb}
+use Rattle.profile.specs.declared.Kind.TheVariants.{Rgb}
 use Rattle.profile.specs.declared.Curve.{Curve}
 use Rattle.profile.specs.declared.Curve.TheVariants.{Named, Gamma}
-use Rattle.profile.specs.declared.CurveName.{CurveName}
-use Rattle.profile.specs.declared.CurveName.TheVariants as Name
-use Rattle.encoding_plan.specs.Answers.{reciprocal_refusal}
-use Rattle.encoding_plan.specs.PlanOf.{supported, curve_of, cicp_of, gray_plan, rgb_plan, xyb_plan, color_plan}
+use Rattle.encoding_plan.specs.PlanOf.{cicp_of, gray_plan, rgb_plan, xyb_plan, color_plan}
 use Rattle.encoding_plan.specs.WhiteLaws.{white_in_range_lem}
 use Rattle.writer.specs.Writer.{max_written}
 use Rattle.writer_laws.specs.PlanLaws.{chad_nine, columns_nine, white_good, gray_parts, rgb_parts}
-use Rattle.encoding_curve.specs.declared.SupportedCurve.{SupportedCurve}
-use Rattle.encoding_curve.specs.declared.SupportedCurve.TheVariants as Supported
 use Rattle.writer_laws.specs.WrittenLengthLaws.{most_letters, rgb_letters, gray_most, gamma_most, named_file}
 
 rgb_most : (w : JxlWhitePoint) (p : JxlPrimaries) (n : ℕ) (c : Curve) → n ≤ most_letters c

@@ -12,7 +12,6 @@ use Rattle.profile.specs.Layout.{layout}
 use Rattle.encoding_plan.specs.PlanOf.{color_plan}
 use Rattle.encoding_plan.specs.FixedFloats.{color_floats, counted_color_plan}
 use Rattle.writer.specs.Writer.{answer, number, count_after, profile_by}
-use Rattle.writer.specs.declared.Profile.TheVariants.{Refused}
 use Rattle.writer_laws.specs.RefusalNumbersLaws as Laws
 use Rattle.writer_laws.specs.RefusalNumbersLaws.{refusal_bounds, told}
 use Rattle.writer_laws.proofs.WrittenLength.{written_length}
@@ -21,7 +20,7 @@ pub refusal_number_lem : (a : Bool) (e : JxlColorEncoding) {k : ℕ} → color_p
 refusal_number_lem a e h = refusal_bounds a e h
 
 -- whatever the output
-pub never_2 : (a : Bool) (e : JxlColorEncoding) (n : ℕ) → answer (counted_color_plan a e) n ≡ Refused 2 → ⊥
+pub never_2 : (a : Bool) (e : JxlColorEncoding) (n : ℕ) → answer (counted_color_plan a e) n ≡ refused 2 → ⊥
 never_2 a e n h = Laws.never_2 a e n h
 
 -- of a plan, or of a refusal by a number up to 99

@@ -2,7 +2,9 @@
 -- `b2a0`), and how many they are (02, order 5). Assumes nothing.
 use Rattle.std.specs.Prelude.{ℕ, List, [], ◌∷◌, ◌++◌, ℤ, pos}
 use Rattle.xyb_constants.specs.XybNumbers as Xyb
-use Rattle.profile.specs.Plan.{GrayWhite, unadapted, adapted, Content, gray, rgb, xyb}
+use Rattle.profile.specs.Plan.{Content, gray, rgb, xyb}
+use Rattle.profile.specs.declared.GrayWhite.{GrayWhite}
+use Rattle.profile.specs.declared.GrayWhite.TheVariants.{Unadapted as unadapted, Adapted as adapted}
 use Rattle.profile.specs.TagTypes.{parameters}
 use Rattle.profile.specs.Layout.{D50}
 use Rattle.profile.specs.declared.Curve.{Curve}

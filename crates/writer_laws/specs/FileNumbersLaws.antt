@@ -21,7 +21,9 @@ use Rattle.adaptation.specs.Adapt.{chad_matrix}
 use Rattle.colorimetry.specs.Primaries.{create_icc_rgb_matrix}
 use Rattle.xyb_constants.specs.XybNumbers as Xyb
 use Rattle.xyb_constants.proofs.XybNumbersLaws as XybLaws
-use Rattle.profile.specs.Plan.{Plan, GrayWhite, unadapted, adapted, Content, gray, rgb, xyb, InRange}
+use Rattle.profile.specs.Plan.{Plan, Content, gray, rgb, xyb, InRange}
+use Rattle.profile.specs.declared.GrayWhite.{GrayWhite}
+use Rattle.profile.specs.declared.GrayWhite.TheVariants.{Unadapted as unadapted, Adapted as adapted}
 use Rattle.profile.specs.PlanLaws.{WhiteNines, Nines, white_nines}
 use Rattle.profile.specs.Layout.{D50}
 use Rattle.profile.specs.FixedConstants.{d50_floats, d50_rounded, parameters_rounded_lem}

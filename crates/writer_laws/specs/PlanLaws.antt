@@ -24,7 +24,9 @@ use Rattle.colorimetry.specs.Primaries.{create_icc_rgb_matrix}
 use Rattle.text.specs.Description.{description}
 use Rattle.text.specs.Held.{HeldEncoding, WhiteInRange}
 use Rattle.text.specs.Bounds.{length-in_range, some-letter, ascii_description}
-use Rattle.profile.specs.Plan.{Plan, GrayWhite, GoodWhite, unadapted, adapted, InRange, GoodText, GoodCurve, GoodCicp}
+use Rattle.profile.specs.Plan.{Plan, GoodWhite, InRange, GoodText, GoodCurve, GoodCicp}
+use Rattle.profile.specs.declared.GrayWhite.{GrayWhite}
+use Rattle.profile.specs.declared.GrayWhite.TheVariants.{Unadapted as unadapted, Adapted as adapted}
 use Rattle.profile.specs.declared.Curve.{Curve}
 use Rattle.profile.specs.declared.Curve.TheVariants.{Named, Gamma}
 use Rattle.profile.specs.declared.CurveName.{CurveName}

@@ -3,13 +3,12 @@
 use Rattle.std.specs.Prelude.{ℕ, ◌≤◌, ◌≡◌, Bool, true, false, List, [], ◌∷◌, length, ℤ, Float}
 use Rattle.std.specs.Float.Ieee.{lt}
 use Rattle.buffer.specs.All.{All}
-use Rattle.buffer.specs.Checked.{is}
+use Rattle.buffer.specs.Checked.{Checked, is, refused}
 use Rattle.buffer.specs.First.{First}
 use Rattle.floats.specs.Abs.{abs}
 use Rattle.floats.specs.Binary32.{◌⊘◌, ◌⊖◌, ◌⊗◌, one}
-use Rattle.numbers.specs.Fixed.{s15_fixed16, whole}
+use Rattle.numbers.specs.Fixed.{some_number, s15_fixed16, whole}
 use Rattle.numbers.specs.Rounded.{rounded_in}
-use Rattle.numbers.specs.declared.fixed.S15Fixed16.TheVariants.{Number}
 use Rattle.linalg.specs.Linalg.{product, rows, columns}
 use Rattle.matrix_inverse.specs.Inverse.{singular}
 use Rattle.color_encoding.specs.Coordinates.{white_xy, primaries_xy}
@@ -29,14 +28,14 @@ use Rattle.profile.specs.Layout.{layout}
 use Rattle.encoding_plan.specs.PlanOf.{color_plan}
 use Rattle.encoding_plan.specs.FixedFloats.{color_floats}
 use Rattle.writer.specs.Writer.{too_short}
-use Rattle.writer.specs.declared.Profile.{Profile}
-use Rattle.writer.specs.declared.Profile.TheVariants.{Written, Refused}
+use Rattle.writer.specs.declared.Written.{Written}
+use Rattle.writer.specs.Writer.{profile}
 
 -- ---- what each check asks
 
 -- a float has a fixed number
 abbrev pub Fits : Float → Type 0
-Fits x = (z : ℤ) × (s15_fixed16 x ≡ Number z (whole x))
+Fits x = (z : ℤ) × (s15_fixed16 x ≡ some_number z (whole x))
 
 -- what is asked of gray with the mark only, and what without it only: 4 and 5 replace 3 and 7 (02, order 9)
 abbrev pub IfAdapted : Bool → Type 0 → Type 0
@@ -146,6 +145,6 @@ checks = c1 ∷ c3 ∷ c4 ∷ c5 ∷ c6 ∷ c7 ∷ c8 ∷ c9 ∷ []
 
 -- the writer's answer to the encoding e, with the mark a, and an output of n bytes: the number of the first check that fails, or, where all pass, the length of the
 -- profile and how many of its fixed numbers were rounded
-pub data Answers (a : Bool) (e : JxlColorEncoding) (n : ℕ) : Profile → Type 0 where
-  refuses : {c : Check} → First (Passed a e n) checks c → Answers a e n (Refused (number c))
-  writes : (p : Plan) → color_plan a e ≡ is p → All (Passed a e n) checks → Answers a e n (Written (length (layout p)) (rounded_in (color_floats a e)))
+pub data Answers (a : Bool) (e : JxlColorEncoding) (n : ℕ) : Checked Written → Type 0 where
+  refuses : {c : Check} → First (Passed a e n) checks c → Answers a e n (refused (number c))
+  writes : (p : Plan) → color_plan a e ≡ is p → All (Passed a e n) checks → Answers a e n (profile (length (layout p)) (rounded_in (color_floats a e)))

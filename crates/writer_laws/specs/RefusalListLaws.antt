@@ -1,5 +1,5 @@
 -- The steps of `color_plan` decide the checks of the refusal list, in their order. Assumes nothing.
-use Rattle.std.specs.Prelude.{ℕ, ◌≡◌, refl, Bool, true, false, not, cond, List, [], ◌∷◌, leb, length, Float}
+use Rattle.std.specs.Prelude.{Option, Some, None, ℕ, ◌≡◌, refl, Bool, true, false, not, cond, List, [], ◌∷◌, leb, length, Float}
 use Rattle.std.proofs.Common.{sym, subst, ◌∙◌, leb→le, le-leb}
 use Rattle.buffer.specs.All.{All, none, more}
 use Rattle.buffer.specs.BoolLaws as Bools
@@ -10,15 +10,14 @@ use Rattle.numbers.specs.Fixed.{s15_fixed16, fixed_or}
 use Rattle.numbers.specs.FixedLaws.{no_number, number_if}
 use Rattle.numbers.specs.Rounded.{rounded_in, counted}
 use Rattle.numbers.specs.declared.fixed.S15Fixed16.{S15Fixed16}
-use Rattle.numbers.specs.declared.fixed.S15Fixed16.TheVariants.{Number, OutOfRange}
 use Rattle.profile.specs.Plan.{Plan}
 use Rattle.profile.specs.Layout.{layout}
 use Rattle.encoding_plan.specs.PlanOf.{color_plan}
 use Rattle.encoding_plan.specs.FixedFloats.{color_floats}
 use Rattle.color_encoding.specs.declared.JxlColorEncoding.{JxlColorEncoding}
 use Rattle.writer.specs.Writer.{answer, too_short}
-use Rattle.writer.specs.declared.Profile.{Profile}
-use Rattle.writer.specs.declared.Profile.TheVariants.{Written, Refused}
+use Rattle.writer.specs.declared.Written.{Written}
+use Rattle.writer.specs.Writer.{profile}
 use Rattle.writer_laws.specs.RefusalList.{Fits, Check, c9, number, Passed}
 
 -- ---- a step that passes exactly if P holds, and else refuses by the number k
@@ -31,9 +30,9 @@ pub data Decides (P : Type 0) (k : ℕ) {A : Type 0} (c : Checked A) : Type 0 wh
 pub fixed_decides : (k : ℕ) (x : Float) → Decides (Fits x) k (fixed_or k x)
 fixed_decides k x = go (s15_fixed16 x) refl
   where
-    go : (s : S15Fixed16) → s15_fixed16 x ≡ s → Decides (Fits x) k (fixed_or k x)
-    go (Number z w) h = let fixed : fixed_or k x ≡ is z = simp h in passes (z, number_if k x fixed) z fixed
-    go OutOfRange h = refuses (λ f. no_number (sym h ∙ f.1)) (simp h)
+    go : (s : Option S15Fixed16) → s15_fixed16 x ≡ s → Decides (Fits x) k (fixed_or k x)
+    go (Some s) h = let fixed : fixed_or k x ≡ is s.number = simp h in passes (s.number, number_if k x fixed) s.number fixed
+    go None h = refuses (λ f. no_number (sym h ∙ f.1)) (simp h)
 
 pub both_decide : {P Q : Type 0} {k : ℕ} {A B : Type 0} {c : Checked A} {f : A → Checked B} → Decides P k c → ((a : A) → Decides Q k (f a)) → Decides (P × Q) k (then c f)
 both_decide {f = f} (refuses n e) d = refuses (λ h. n h.0) (rw e)
@@ -82,14 +81,14 @@ test_decides false false k c a pass fail = passes_as refl (pass refl)
 
 module _ (m : Bool) (e : JxlColorEncoding) (n : ℕ) where
   -- the answer where the plan, or its refusal, is c
-  abbrev pub answer_to : Checked Plan → Profile
+  abbrev pub answer_to : Checked Plan → Checked Written
   answer_to c = answer (counted (color_floats m e) c) n
 
-  pub data From (cs : List Check) : Profile → Type 0 where
-    stops : {c : Check} → First (Passed m e n) cs c → From cs (Refused (number c))
-    writes : (p : Plan) → color_plan m e ≡ is p → All (Passed m e n) cs → From cs (Written (length (layout p)) (rounded_in (color_floats m e)))
+  pub data From (cs : List Check) : Checked Written → Type 0 where
+    stops : {c : Check} → First (Passed m e n) cs c → From cs (refused (number c))
+    writes : (p : Plan) → color_plan m e ≡ is p → All (Passed m e n) cs → From cs (profile (length (layout p)) (rounded_in (color_floats m e)))
 
-  pub onward : {c : Check} {cs : List Check} {a : Profile} → Passed m e n c → From cs a → From (c ∷ cs) a
+  pub onward : {c : Check} {cs : List Check} {a : Checked Written} → Passed m e n c → From cs a → From (c ∷ cs) a
   onward p (stops f) = stops (later p f)
   onward p (writes q g all) = writes q g (more p all)
 
@@ -113,6 +112,6 @@ module _ (m : Bool) (e : JxlColorEncoding) (n : ℕ) where
   pub last : (p : Plan) → color_plan m e ≡ is p → From (c9 ∷ []) (answer_to (is p))
   last p g = go (leb (length (layout p)) n) refl
     where
-      go : (b : Bool) → leb (length (layout p)) n ≡ b → From (c9 ∷ []) (cond b (Written (length (layout p)) (rounded_in (color_floats m e))) (Refused too_short))
+      go : (b : Bool) → leb (length (layout p)) n ≡ b → From (c9 ∷ []) (cond b (profile (length (layout p)) (rounded_in (color_floats m e))) (refused too_short))
       go true h = writes p g (more {a = c9} (λ q k. let same : p ≡ q = cc (sym g ∙ k) in rw (← same) (leb→le (length (layout p)) n (Bools.holds h))) none)
       go false h = stops (fails {c = c9} (λ ok. Bools.true≢false (sym (le-leb (length (layout p)) n (ok p g)) ∙ h)))

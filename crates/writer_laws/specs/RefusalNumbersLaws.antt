@@ -14,8 +14,8 @@ use Rattle.profile.specs.Layout.{layout}
 use Rattle.encoding_plan.specs.PlanOf.{color_plan}
 use Rattle.encoding_plan.specs.FixedFloats.{color_floats, counted_color_plan}
 use Rattle.writer.specs.Writer.{answer, number as number_of, count_after, profile_by, too_short}
-use Rattle.writer.specs.declared.Profile.{Profile}
-use Rattle.writer.specs.declared.Profile.TheVariants.{Written, Refused}
+use Rattle.writer.specs.declared.Written.{Written}
+use Rattle.writer.specs.Writer.{profile}
 use Rattle.writer_laws.specs.RefusalList.{Check, c1, c3, c4, c5, c6, c7, c8, c9, number, Passed, checks, Answers, refuses, writes}
 use Rattle.writer_laws.specs.WriterAnswersLaws.{answered}
 
@@ -36,7 +36,7 @@ module _ (m : Bool) (e : JxlColorEncoding) {k : ℕ} (h : color_plan m e ≡ ref
   pub refusal_bounds : (1 ≤ k) × (k ≤ 8)
   refusal_bounds = go (answered m e 0) (ap (λ c. answer (counted (color_floats m e) c) 0) h)
     where
-      go : {a : Profile} → Answers m e 0 a → a ≡ Refused k → (1 ≤ k) × (k ≤ 8)
+      go : {a : Checked Written} → Answers m e 0 a → a ≡ refused k → (1 ≤ k) × (k ≤ 8)
       go (refuses {c} f) g = let same : number c ≡ k = cc in rw (← same) (before_output c f)
       go (writes p q all) g = let z : ◌≡◌ {A = ℕ} 0 1 = cc in absurd (omega arith)
 
@@ -52,10 +52,10 @@ not-2 c7 e = omega arith
 not-2 c8 e = omega arith
 not-2 c9 e = omega arith
 
-pub never_2 : (m : Bool) (e : JxlColorEncoding) (n : ℕ) → answer (counted_color_plan m e) n ≡ Refused 2 → ⊥
+pub never_2 : (m : Bool) (e : JxlColorEncoding) (n : ℕ) → answer (counted_color_plan m e) n ≡ refused 2 → ⊥
 never_2 m e n h = go (answered m e n) h
   where
-    go : {a : Profile} → Answers m e n a → a ≡ Refused 2 → ⊥
+    go : {a : Checked Written} → Answers m e n a → a ≡ refused 2 → ⊥
     go (refuses {c} f) g = let same : number c ≡ 2 = cc in not-2 c same
     go (writes p q all) g = let z : ◌≡◌ {A = ℕ} 0 1 = cc in omega arith
 
@@ -66,8 +66,8 @@ pub told : (xs : List Float) (c : Checked Plan) (n : ℕ) → ((p : Plan) → c 
 told xs (refused j) n long low k = simp (le-leb j 99 (low j refl))
 told xs (is p) n long low k = go (leb (length (layout p)) n)
   where
-    answered : Bool → Profile
-    answered b = cond b (Written (length (layout p)) (rounded_in xs)) (Refused too_short)
+    answered : Bool → Checked Written
+    answered b = cond b (profile (length (layout p)) (rounded_in xs)) (refused too_short)
 
     go : (b : Bool) → profile_by (number_of (answered b)) (count_after (answered b) k) ≡ answered b
     go true = simp (lt-leb (length (layout p)) 99 (le_trans (lit≤ tt) (long p refl)))

@@ -3,7 +3,7 @@ use Rattle.std.specs.Prelude.{ℕ, ◌≡◌, refl, Bool, [], ◌∷◌, length,
 use Rattle.std.proofs.Common.{sym, ap, subst, ◌∙◌, arith}
 use Rattle.std.proofs.Math.Bool.{true, false}
 use Rattle.std.specs.Float.Ieee.{lt}
-use Rattle.buffer.specs.Checked.{is}
+use Rattle.buffer.specs.Checked.{Checked, is, refused}
 use Rattle.buffer.specs.CheckedLaws.{never}
 use Rattle.buffer.specs.FirstLaws.{first_unique, first_not_all}
 use Rattle.floats.specs.Abs.{abs}
@@ -27,7 +27,8 @@ use Rattle.adaptation.specs.Adapt.{adaptable, chad_matrix}
 use Rattle.adaptation.specs.AdaptLaws.{chad_given, chad_refused}
 use Rattle.colorimetry.specs.Primaries.{primaries_matrix, create_icc_rgb_matrix}
 use Rattle.colorimetry.specs.PrimariesLaws.{matrix_given, matrix_refused}
-use Rattle.profile.specs.Plan.{Plan, unadapted, adapted}
+use Rattle.profile.specs.Plan.{Plan}
+use Rattle.profile.specs.declared.GrayWhite.TheVariants.{Unadapted as unadapted, Adapted as adapted}
 use Rattle.profile.specs.declared.Curve.TheVariants.{Named, Gamma}
 use Rattle.profile.specs.declared.CurveName.{CurveName}
 use Rattle.profile.specs.declared.CurveName.TheVariants as Name
@@ -38,8 +39,8 @@ use Rattle.encoding_curve.specs.declared.SupportedCurve.TheVariants as Supported
 use Rattle.encoding_plan.specs.FixedFloats.{color_floats, counted_color_plan}
 use Rattle.profile.specs.Layout.{layout}
 use Rattle.writer.specs.Writer.{answer}
-use Rattle.writer.specs.declared.Profile.{Profile}
-use Rattle.writer.specs.declared.Profile.TheVariants.{Written, Refused}
+use Rattle.writer.specs.declared.Written.{Written}
+use Rattle.writer.specs.Writer.{profile}
 use Rattle.writer_laws.specs.RefusalList.{Fits, NeitherPqNorHlg, ReciprocalFits, chad_of, matrix_of, gray_x, gray_z, Check, c1, c3, c4, c5, c6, c7, c8, number, checks, Answers, refuses as refuses-by, writes as writes-it}
 use Rattle.writer_laws.specs.RefusalListLaws.{Decides, passes, refuses, DecidesAs, decides_by, value_of, both_decide, fixed_decides, each_decides, test_decides, From, stops, writes, onward, step, step_as, apart, last}
 
@@ -172,12 +173,12 @@ answered m e n = given (go m e)
     go m (RgbColorSpace w p t i) = rgb_answered m w p t i n
     go m (XYB i) = xyb_answered m i n
 
-    given : {a : Profile} → From m e n checks a → Answers m e n a
+    given : {a : Checked Written} → From m e n checks a → Answers m e n a
     given (stops f) = refuses-by f
     given (writes p h all) = writes-it p h all
 
-pub answer_unique : {m : Bool} {e : JxlColorEncoding} {n : ℕ} {a b : Profile} → Answers m e n a → Answers m e n b → a ≡ b
-answer_unique (refuses-by f) (refuses-by g) = ap (λ (c : Check). Refused (number c)) (first_unique f g)
+pub answer_unique : {m : Bool} {e : JxlColorEncoding} {n : ℕ} {a b : Checked Written} → Answers m e n a → Answers m e n b → a ≡ b
+answer_unique (refuses-by f) (refuses-by g) = ap (λ (c : Check). refused (number c)) (first_unique f g)
 answer_unique (refuses-by f) (writes-it p h all) = absurd (first_not_all f all)
 answer_unique (writes-it p h all) (refuses-by g) = absurd (first_not_all g all)
-answer_unique {m} {e} (writes-it p h _) (writes-it q k _) = let same : p ≡ q = cc (sym h ∙ k) in ap (λ (r : Plan). Written (length (layout r)) (rounded_in (color_floats m e))) same
+answer_unique {m} {e} (writes-it p h _) (writes-it q k _) = let same : p ≡ q = cc (sym h ∙ k) in ap (λ (r : Plan). profile (length (layout r)) (rounded_in (color_floats m e))) same

@@ -10,7 +10,6 @@ use Rattle.buffer.specs.CheckedLaws.{never, both}
 use Rattle.numbers.specs.Fixed.{fixed_or}
 use Rattle.color_encoding.specs.Intent.{intent_name}
 use Rattle.color_encoding.specs.declared.RenderingIntent.{RenderingIntent}
-use Rattle.color_encoding.specs.Coordinates.{white_xy, primaries_xy}
 use Rattle.color_encoding.specs.declared.RenderingIntent.TheVariants.{Perceptual, Relative}
 use Rattle.color_encoding.specs.declared.JxlWhitePoint.{JxlWhitePoint}
 use Rattle.color_encoding.specs.declared.JxlWhitePoint.TheVariants as W
@@ -18,30 +17,24 @@ use Rattle.color_encoding.specs.declared.JxlPrimaries.{JxlPrimaries}
 use Rattle.color_encoding.specs.declared.JxlPrimaries.TheVariants as P
 use Rattle.color_encoding.specs.declared.JxlTransferFunction.{JxlTransferFunction}
 use Rattle.color_encoding.specs.declared.JxlTransferFunction.TheVariants as F
-use Rattle.color_encoding.specs.declared.JxlColorEncoding.{JxlColorEncoding}
-use Rattle.color_encoding.specs.declared.JxlColorEncoding.TheVariants.{RgbColorSpace, GrayscaleColorSpace, XYB}
+use Rattle.color_encoding.specs.declared.JxlColorEncoding.TheVariants.{RgbColorSpace}
 use Rattle.decimal.specs.Seven.{seven_decimals, with_point}
 use Rattle.digits.specs.Digits.{digits, digits_up_to, last_digits}
 use Rattle.text.specs.Description.{underscore, white_name, primaries_name, transfer_name, rgb_text, rgb_description, description, srgb, display_p3, rec2100_pq, rec2100_hlg, matches}
 use Rattle.text.specs.Held.{HeldEncoding, HeldPrimaries, InRange}
 use Rattle.text.specs.Bounds.{length-in_range}
 use Rattle.text.specs.BoundsLaws.{length-white_in_range, length-rgb_text}
-use Rattle.profile.specs.Plan.{Plan, max_letters, InRange as NumberInRange}
-use Rattle.profile.specs.PlanLaws.{white_nines}
-use Rattle.profile.specs.Layout.{layout}
-use Rattle.profile.specs.LayoutLaws.{length-layout}
+use Rattle.profile.specs.Plan.{max_letters}
 use Rattle.profile.specs.Elements.{file_length, start, body_size, tag_count, padding}
-use Rattle.profile.specs.Shape.{is_gamma, has_cicp, is_adapted, slots_of}
+use Rattle.profile.specs.Shape.{slots_of}
 use Rattle.profile.specs.declared.Kind.TheVariants.{Gray, Rgb}
 use Rattle.profile.specs.declared.Curve.{Curve}
 use Rattle.profile.specs.declared.Curve.TheVariants.{Named, Gamma}
 use Rattle.profile.specs.declared.CurveName.{CurveName}
 use Rattle.profile.specs.declared.CurveName.TheVariants as Name
 use Rattle.encoding_plan.specs.Answers.{reciprocal_refusal}
-use Rattle.encoding_plan.specs.PlanOf.{supported, curve_of, cicp_of, gray_plan, rgb_plan, xyb_plan, color_plan}
-use Rattle.encoding_plan.specs.WhiteLaws.{white_in_range_lem}
+use Rattle.encoding_plan.specs.PlanOf.{supported, curve_of}
 use Rattle.writer.specs.Writer.{max_written}
-use Rattle.writer_laws.specs.PlanLaws.{chad_nine, columns_nine, white_good, gray_parts, rgb_parts}
 use Rattle.encoding_curve.specs.declared.SupportedCurve.{SupportedCurve}
 use Rattle.encoding_curve.specs.declared.SupportedCurve.TheVariants as Supported
 
