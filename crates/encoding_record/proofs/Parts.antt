@@ -1,20 +1,15 @@
 -- A part of a record as the code puts it: the byte of its number, and then its floats or zeros. Assumes nothing.
-use Prim.Native.Nat.{ℕ, ◌+◌, ◌≤◌, ◌<◌}
+use Prim.Native.Nat.{ℕ, ◌+◌, ◌≤◌}
 use mathlib.Core.Path.{◌≡◌, refl, sym, ap₂}
 use mathlib.Core.List.{List, ◌∷◌, ◌++◌, append_assoc}
-use lib.Dec.{lit<}
 use lib.ListN.{length}
 use lib.Ieee.{Float}
-use Rattle.color_encoding.specs.declared.RenderingIntent.{RenderingIntent}
-use Rattle.color_encoding.specs.declared.RenderingIntent.TheVariants.{Perceptual, Relative, Saturation, Absolute}
 use Rattle.color_encoding.specs.declared.JxlWhitePoint.{JxlWhitePoint}
 use Rattle.color_encoding.specs.declared.JxlWhitePoint.TheVariants as W
 use Rattle.color_encoding.specs.declared.JxlPrimaries.{JxlPrimaries}
 use Rattle.color_encoding.specs.declared.JxlPrimaries.TheVariants as P
 use Rattle.color_encoding.specs.declared.JxlTransferFunction.{JxlTransferFunction}
 use Rattle.color_encoding.specs.declared.JxlTransferFunction.TheVariants as F
-use Rattle.color_encoding.specs.Codes.{white_point_number, primaries_number, transfer_function_number}
-use Rattle.color_encoding.specs.Intent.{intent_number}
 use Rattle.buffer.specs.Bytes.{zeros}
 use Rattle.buffer.specs.Puts.{Puts}
 use Rattle.buffer.specs.PutsLaws.{joined}
@@ -31,35 +26,6 @@ part number floats n e p = named (number ∷ floats) (ap₂ (λ (x : ℕ) (r : L
 -- three runs of bytes are one
 pub three : {l m n o a b c : List ℕ} {at i j k x y z : ℕ} → at ≤ length l → Puts l at x a i m → Puts m i y b j n → Puts n j z c k o → Puts l at (x + y + z) (a ++ (b ++ c)) k o
 three {a = a} {b = b} {c = c} h p q r = named (a ++ (b ++ c)) (sym (append_assoc a b c)) (joined h (joined h p q) r)
-
--- ---- the numbers are bytes
-
-pub white_byte : (w : JxlWhitePoint) → white_point_number w < 256
-white_byte W.D65 = lit< tt
-white_byte W.E = lit< tt
-white_byte W.DCI = lit< tt
-white_byte (W.Chromaticity wx wy) = lit< tt
-
-pub primaries_byte : (p : JxlPrimaries) → primaries_number p < 256
-primaries_byte P.SRGB = lit< tt
-primaries_byte P.BT2100 = lit< tt
-primaries_byte P.P3 = lit< tt
-primaries_byte (P.Chromaticities rx ry gx gy bx by) = lit< tt
-
-pub curve_byte : (t : JxlTransferFunction) → transfer_function_number t < 256
-curve_byte F.BT709 = lit< tt
-curve_byte F.Linear = lit< tt
-curve_byte F.SRGB = lit< tt
-curve_byte F.PQ = lit< tt
-curve_byte F.DCI = lit< tt
-curve_byte F.HLG = lit< tt
-curve_byte (F.Gamma g) = lit< tt
-
-pub intent_byte : (i : RenderingIntent) → intent_number i < 256
-intent_byte Perceptual = lit< tt
-intent_byte Relative = lit< tt
-intent_byte Saturation = lit< tt
-intent_byte Absolute = lit< tt
 
 -- ---- the floats of a named variant, by what a `match` tells, are zeros
 

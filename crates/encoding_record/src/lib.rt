@@ -44,10 +44,10 @@ fn put_white(out: &mut [u8], at: usize, white: JxlWhitePoint) -> usize
     ensures { Puts out.old at 9 (white_bytes white) result out.new }
 {
     let next = put_number(out, at, white.number());
-    if let JxlWhitePoint::Chromaticity { wx, wy } = white {
-        return put_xy(out, next, wx, wy);
+    match white {
+        JxlWhitePoint::Chromaticity { wx, wy } => put_xy(out, next, wx, wy),
+        _ => put_zeros(out, next, 8),
     }
-    put_zeros(out, next, 8)
 }
 
 fn put_primaries(out: &mut [u8], at: usize, primaries: JxlPrimaries) -> usize
@@ -55,20 +55,21 @@ fn put_primaries(out: &mut [u8], at: usize, primaries: JxlPrimaries) -> usize
     ensures { Puts out.old at 25 (primaries_bytes primaries) result out.new }
 {
     let red = put_number(out, at, primaries.number());
-    if let JxlPrimaries::Chromaticities {
-        rx,
-        ry,
-        gx,
-        gy,
-        bx,
-        by,
-    } = primaries
-    {
-        let green = put_xy(out, red, rx, ry);
-        let blue = put_xy(out, green, gx, gy);
-        return put_xy(out, blue, bx, by);
+    match primaries {
+        JxlPrimaries::Chromaticities {
+            rx,
+            ry,
+            gx,
+            gy,
+            bx,
+            by,
+        } => {
+            let green = put_xy(out, red, rx, ry);
+            let blue = put_xy(out, green, gx, gy);
+            put_xy(out, blue, bx, by)
+        }
+        _ => put_zeros(out, red, 24),
     }
-    put_zeros(out, red, 24)
 }
 
 fn put_curve(out: &mut [u8], at: usize, curve: JxlTransferFunction) -> usize
@@ -76,10 +77,10 @@ fn put_curve(out: &mut [u8], at: usize, curve: JxlTransferFunction) -> usize
     ensures { Puts out.old at 5 (curve_bytes curve) result out.new }
 {
     let next = put_number(out, at, curve.number());
-    if let JxlTransferFunction::Gamma(g) = curve {
-        return put_float(out, next, g);
+    match curve {
+        JxlTransferFunction::Gamma(g) => put_float(out, next, g),
+        _ => put_zeros(out, next, 4),
     }
-    put_zeros(out, next, 4)
 }
 
 fn put_intent(out: &mut [u8], at: usize, intent: RenderingIntent) -> usize

@@ -10,6 +10,6 @@ pub returns-in-Gamma : goal.returns-in-Gamma
 returns-in-Gamma c =
     part _ (curve_float c.args.curve) c.number.ensures (ap curve_float c.in-Gamma.is) (joined (omega (arith, c.requires)) c.put_number-next.ensures c.put_float.ensures)
 
-pub returns : goal.returns
-returns c =
+pub returns-in_default : goal.returns-in_default
+returns-in_default c =
     part _ (curve_float c.args.curve) c.number.ensures (curve_zeros c.args.curve c.in_default.not-Gamma) (joined (omega (arith, c.requires)) c.put_number-next.ensures c.put_zeros.ensures)

@@ -15,6 +15,6 @@ returns-in-Chromaticities c =
     part _ (primaries_floats c.args.primaries) c.number.ensures (ap primaries_floats c.in-Chromaticities.is ∙ simp append_assoc)
     (joined room (joined room (joined room c.put_number-red.ensures c.put_xy-green.ensures) c.put_xy-blue.ensures) c.put_xy.ensures)
 
-pub returns : goal.returns
-returns c =
+pub returns-in_default : goal.returns-in_default
+returns-in_default c =
     part _ (primaries_floats c.args.primaries) c.number.ensures (primaries_zeros c.args.primaries c.in_default.not-Chromaticities) (joined (omega (arith, c.requires)) c.put_number-red.ensures c.put_zeros.ensures)

@@ -10,6 +10,6 @@ pub returns-in-Chromaticity : goal.returns-in-Chromaticity
 returns-in-Chromaticity c =
     part _ (white_floats c.args.white) c.number.ensures (ap white_floats c.in-Chromaticity.is) (joined (omega (arith, c.requires)) c.put_number-next.ensures c.put_xy.ensures)
 
-pub returns : goal.returns
-returns c =
+pub returns-in_default : goal.returns-in_default
+returns-in_default c =
     part _ (white_floats c.args.white) c.number.ensures (white_zeros c.args.white c.in_default.not-Chromaticity) (joined (omega (arith, c.requires)) c.put_number-next.ensures c.put_zeros.ensures)
