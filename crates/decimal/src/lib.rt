@@ -42,13 +42,6 @@ struct Carried {
     carry: u64,
 }
 
-// A float's text: the first `len` bytes; zeros after it.
-#[derive(Clone, Copy)]
-pub struct Decimals {
-    pub bytes: [u8; 48],
-    pub len: usize,
-}
-
 // The point and seven decimals: eight digits, of which the first gives its place to the point.
 fn put_decimals(out: &mut [u8], at: usize, n: u64) -> usize
     requires { (n < 10 ^ 7) × (at + 8 ≤ length out.old) }
@@ -149,10 +142,8 @@ fn shifted(m: u64, k: u64) -> Parts
         p1: 0,
         p0: m,
     };
-    let mut i = 0u64;
-    while i < k {
+    for _turn in 0..k {
         b = double(b);
-        i += 1;
     }
     b
 }
@@ -235,10 +226,10 @@ pub fn put_seven_decimals(out: &mut [u8], at: usize, x: f32) -> usize
     put_magnitude(out, i, field, bits % 8388608)
 }
 
-pub fn seven_decimals(x: f32) -> Decimals
+pub fn seven_decimals(x: f32) -> buffer::Text<48>
     ensures { (result.len ≡ length (seven_decimals x)) × (result.bytes ≡ seven_decimals x ++ replicate (48 - length (seven_decimals x)) 0) }
 {
     let mut bytes = [0u8; 48];
     let len = put_seven_decimals(&mut bytes, 0, x);
-    Decimals { bytes, len }
+    buffer::Text { bytes, len }
 }
