@@ -5,6 +5,7 @@
 pub mod finder;
 
 ghost use Rattle.std.specs.Prelude.{◌≡◌};
+ghost use Rattle.refusals.specs.Refusals.{checked};
 ghost use Rattle.reader_spec.specs.Table.{varying_of};
 ghost use Rattle.reader_spec.specs.Steps.{Tabled};
 ghost use Rattle.reader_spec.specs.Read as Read;
@@ -13,48 +14,43 @@ ghost use Rattle.reading.specs.Reading as Answers;
 use comparisons::{header_is, table_is};
 pub use finder::{find, find_line};
 use plan_checks::intent_is_good;
-use profile::{MAX_LETTERS, Shape};
-use reader_checks::plan_answer;
+use profile::Shape;
 pub use reading::Reading;
-use reading::{accepted, refused};
+use refusals::Refusal;
 
 // Elements, range and id of a file with the table of a shape.
-fn read_elements(file: &[u8], shape: Shape, intent: u32) -> Reading
+fn read_elements(file: &[u8], shape: Shape, intent: u32) -> Result<Reading, Refusal>
     requires { Tabled shape file.now × (intent ≡ (varying_of file.now).intent) }
-    ensures { result ≡ Answers.reading (Read.from_body file.now) }
+    ensures { checked result ≡ Answers.reading (Read.from_body file.now) }
 {
     let plan = plan_in::numbers_in(file, shape, intent);
-    let mut text = [0u8; MAX_LETTERS];
-    let letters = plan_in::text_in(file, shape, &mut text);
-    let answer = plan_answer(file, plan, &text[..letters]);
-    if answer.refusal != 0 {
-        return refused(answer.refusal);
-    }
-    accepted(plan, answer.id_not_computed, letters, text)
+    let text = plan_in::text_in(file, shape);
+    let mark = reader_checks::plan_answer(file, plan, &text.bytes[..text.len])?;
+    Ok(reading::accepted(plan, mark, text))
 }
 
 // Reads a file.
-pub fn read(file: &[u8]) -> Reading
-    ensures { result ≡ Answers.reading (Read.read file.now) }
+pub fn read(file: &[u8]) -> Result<Reading, Refusal>
+    ensures { checked result ≡ Answers.reading (Read.read file.now) }
 {
     if file.len() < reader_checks::SHORTEST {
-        return refused(reader_checks::TOO_SHORT);
+        return Err(Refusal::FileTooShort);
     }
     let size = words::read_u32_be(file, 0);
     if size as usize != file.len() {
-        return refused(reader_checks::WRONG_SIZE);
+        return Err(Refusal::WrongSize);
     }
     let kind = fields::kind_of(file);
     let intent = words::read_u32_be(file, header::INTENT);
     if !header_is(file, kind, intent) {
-        return refused(reader_checks::WRONG_HEADER);
+        return Err(Refusal::WrongHeader);
     }
     if !intent_is_good(intent) {
-        return refused(reader_checks::WRONG_INTENT);
+        return Err(Refusal::WrongIntent);
     }
     let shape = fields::shape_in(file, kind);
     if !table_is(file, shape) {
-        return refused(reader_checks::WRONG_TABLE);
+        return Err(Refusal::WrongTable);
     }
     read_elements(file, shape, intent)
 }

@@ -10,10 +10,8 @@ use Rattle.reader_spec.specs.PlanIn.{shape_from, shape_in}
 use Rattle.reader_spec.specs.PlanInLaws.{shape_kind}
 use Rattle.reader_spec.specs.DecideLaws.{decided_if, decided_not}
 use Rattle.reader_spec.specs.Steps.{Headed, Tabled}
-use Rattle.reader_spec.specs.StepsLaws.{read_21, read_22}
-use Rattle.reading.specs.Reading.{reading}
-use Rattle.reader.proofs.HeaderTests.{Tested, headed, answer_23, answer_24, answer_table}
-use Rattle.reader.proofs.HeaderTests.{refuse_25, go_on}
+use Rattle.reader_spec.specs.StepsLaws.{read_21, read_22, read_table, table_25, table_body}
+use Rattle.reader.proofs.HeaderTests.{Tested, headed, answer_23, answer_24}
 use Rattle.reader.proofs.read.Goals.{After-header_is, After-read_u32_be-intent, After-shape_in-shape, Else-not-intent_is_good, Else-not-table_is}
 use Rattle.reader.proofs.read.Goals as goal
 
@@ -56,12 +54,11 @@ tabled c =
     }
 
 pub returns-then-file-lt-SHORTEST : goal.returns-then-file-lt-SHORTEST
-returns-then-file-lt-SHORTEST c = c.refused.ensures ∙ sym (ap reading (read_21 _ (λ h. omega arith)))
+returns-then-file-lt-SHORTEST c = rw (read_21 c.args.file.now (λ h. omega arith))
 
 pub returns-then-size-file : goal.returns-then-size-file
 unfolding varying_of
-returns-then-size-file c =
-    c.refused-then-size-file.ensures ∙ sym (ap reading (read_22 _ c.if-file-lt-SHORTEST.false (λ e. c.if-size-file.true (c.read_u32_be-size.ensures ∙ e))))
+returns-then-size-file c = rw (read_22 c.args.file.now c.if-file-lt-SHORTEST.false (λ e. c.if-size-file.true (c.read_u32_be-size.ensures ∙ e)))
 
 pub header_is-requires : goal.header_is-requires
 unfolding varying_of
@@ -69,20 +66,30 @@ header_is-requires c =
     (c.if-file-lt-SHORTEST.false, sym c.read_u32_be-size.ensures ∙ c.if-size-file.false, c.read_u32_be-intent.ensures)
 
 pub returns-then-not-header_is : goal.returns-then-not-header_is
-returns-then-not-header_is c = answer_23 (tested (goal.at.returns-then-not-header_is c).After-header_is) c.if-not-header_is.true c.refused-then-not-header_is.ensures
+returns-then-not-header_is c = rw (answer_23 (tested (goal.at.returns-then-not-header_is c).After-header_is) c.if-not-header_is.true)
 
 pub returns-then-not-intent_is_good : goal.returns-then-not-intent_is_good
 returns-then-not-intent_is_good c =
-    answer_24 (tested (goal.at.returns-then-not-intent_is_good c).After-header_is) c.if-not-header_is.false (decided_not _ (sym c.intent_is_good.ensures ∙ c.if-not-intent_is_good.true)) c.refused-then-not-intent_is_good.ensures
+    let t = tested (goal.at.returns-then-not-intent_is_good c).After-header_is in
+    rw (answer_24 t c.if-not-header_is.false (decided_not _ (sym c.intent_is_good.ensures ∙ c.if-not-intent_is_good.true)))
 
 pub returns-then-not-table_is : goal.returns-then-not-table_is
 returns-then-not-table_is c =
-    answer_table (passed (goal.at.returns-then-not-table_is c).Else-not-intent_is_good)
-    (c.refused-then-not-table_is.ensures ∙ refuse_25 _ _ (shape_is (goal.at.returns-then-not-table_is c).After-shape_in-shape) (decided_not _ (sym c.table_is.ensures ∙ c.if-not-table_is.true)))
+    let f = c.args.file.now in
+    let is = shape_is (goal.at.returns-then-not-table_is c).After-shape_in-shape in
+    rw (
+      read_table _ f (passed (goal.at.returns-then-not-table_is c).Else-not-intent_is_good),
+      table_25 c.shape_in-shape.result f is (decided_not _ (sym c.table_is.ensures ∙ c.if-not-table_is.true)),
+    )
 
 pub read_elements-requires : goal.read_elements-requires
 unfolding varying_of
 read_elements-requires c = (tabled (goal.at.read_elements-requires c).Else-not-table_is, c.read_u32_be-intent.ensures)
 
 pub returns : goal.returns
-returns c = answer_table (passed (goal.at.returns c).Else-not-intent_is_good) (go_on _ (tabled (goal.at.returns c).Else-not-table_is) c.read_elements.ensures)
+returns c =
+    let f = c.args.file.now in
+    rw (
+      read_table _ f (passed (goal.at.returns c).Else-not-intent_is_good),
+      table_body c.shape_in-shape.result f (tabled (goal.at.returns c).Else-not-table_is),
+    ) c.read_elements.ensures
