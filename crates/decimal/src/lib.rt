@@ -3,12 +3,13 @@
 
 #![tactic(auto)]
 
-ghost use Rattle.std.specs.Prelude.{◌≡◌, not, ◌++◌, ◌∷◌, ◌+◌, ◌*◌, ◌-◌, ◌^◌, ◌<◌, ◌≤◌, eqb, ltb, length, replicate};
+ghost use Rattle.std.specs.Prelude.{◌≡◌, not, ◌∷◌, ◌+◌, ◌*◌, ◌-◌, ◌^◌, ◌<◌, ◌≤◌, eqb, ltb, length};
 ghost use Rattle.std.specs.Float.{binary32};
 ghost use Rattle.std.specs.Float.Ieee.Nearest.{closest};
 ghost use Rattle.floats.specs.Fields.{significand};
 ghost use Rattle.digits.specs.Digits.{digits, last_digits};
 ghost use Rattle.buffer.specs.Puts.{PutsText};
+ghost use Rattle.buffer.specs.Texts.{IsText};
 ghost use Rattle.decimal.specs.Seven.{minus, with_point, seven_decimals};
 ghost use Rattle.decimal.specs.Parts.{value_of, Proper, part};
 
@@ -227,7 +228,7 @@ pub fn put_seven_decimals(out: &mut [u8], at: usize, x: f32) -> usize
 }
 
 pub fn seven_decimals(x: f32) -> buffer::Text<48>
-    ensures { (result.len ≡ length (seven_decimals x)) × (result.bytes ≡ seven_decimals x ++ replicate (48 - length (seven_decimals x)) 0) }
+    ensures { IsText (seven_decimals x) result }
 {
     let mut bytes = [0u8; 48];
     let len = put_seven_decimals(&mut bytes, 0, x);

@@ -1,8 +1,8 @@
 -- What the functions that write a description ensure.
 -- Assumes nothing.
-use Rattle.std.specs.Prelude.{◌≡◌, List, ◌++◌, ℕ, ◌-◌, ◌≤◌, length}
-use Rattle.buffer.specs.Bytes.{zeros}
+use Rattle.std.specs.Prelude.{List, ℕ, ◌≤◌, length}
 use Rattle.buffer.specs.Puts.{PutsText}
+use Rattle.buffer.specs.Texts.{IsText}
 use Rattle.color_encoding.specs.declared.JxlColorEncoding.{JxlColorEncoding}
 use Rattle.text.specs.Description.{description, max_bytes, max_bytes_in_range}
 use Rattle.text.specs.Held.{WhiteInRange}
@@ -18,8 +18,7 @@ pub record PutsDescription (Asked : Type 0) (text l : List ℕ) (r : ℕ) (out :
   pub puts : PutsText l 0 text r out
   pub short : Short Asked text
 
--- the description by value, zeros after it
+-- the description by value
 pub record Describes (e : JxlColorEncoding) (text : Text max_bytes) : Type 0 where
-  pub len : text.len ≡ length (description e)
-  pub bytes : text.bytes ≡ description e ++ zeros (max_bytes - length (description e))
+  pub is_text : IsText (description e) text
   pub short : Short (WhiteInRange e) (description e)
