@@ -2,14 +2,12 @@
 -- number, and what they leave in what they are lent. Assumes nothing.
 use Rattle.std.specs.Prelude.{ℕ, ◌≡◌, Bool, true, false, List, [], ◌∷◌, length}
 use Rattle.buffer.specs.Checked.{Checked, is, then}
-use Rattle.color_encoding.specs.Codes.{from, unknown}
+use Rattle.color_encoding.specs.Codes.{from}
 use Rattle.color_encoding.specs.declared.JxlColorEncoding.{JxlColorEncoding}
 use Rattle.encoding_plan.specs.EncodingPlan.{encoding_as, counted_encoding_plan}
 use Rattle.encoding_plan.specs.declared.Encoding.{Encoding}
 use Rattle.writer.specs.Writer.{answer, number, count_after, profile_by, Writes}
-use Rattle.writer.specs.declared.Profile.{Profile}
-use Rattle.coded_writer.specs.declared.MarkedCode.{MarkedCode}
-use Rattle.coded_writer.specs.declared.MarkedCode.TheVariants as M
+use Rattle.writer.specs.declared.Written.{Written}
 
 -- ---- the encoding that codes mean
 
@@ -29,16 +27,25 @@ mark_from n = from (false ∷ true ∷ []) n
 abbrev pub coded_by : ℕ → ℕ → ℕ → Checked JxlColorEncoding → Checked Encoding
 coded_by n a b c = then (mark_from n) (λ m. coded m a b c)
 
--- what a call answers: an encoding, or none
-abbrev pub known_marked : MarkedCode → Checked Encoding
-known_marked (M.Known e) = is e
-known_marked M.Unknown = unknown
-
 -- ---- the promises
 
 -- the writer's answer to what the codes mean, on an output of n bytes
-abbrev pub code_answer : Checked Encoding → ℕ → Profile
+abbrev pub code_answer : Checked Encoding → ℕ → Checked Written
 code_answer c n = answer (then c counted_encoding_plan) n
+
+-- one number tells such an answer but for its count
+abbrev pub Told : Checked Written → Type 0
+Told r = (k : ℕ) → profile_by (number r) (count_after r k) ≡ r
+
+-- the writer's promise
+pub record CreatesCode (c : Checked Encoding) (before after : List ℕ) (r : Checked Written) : Type 0 where
+  pub writes : Writes (λ p. p) c before after r
+  pub told : Told r
+
+-- its answer on an output of n bytes
+pub record MeasuresLength (c : Checked Encoding) (n : ℕ) (r : Checked Written) : Type 0 where
+  pub answer : r ≡ code_answer c n
+  pub told : Told r
 
 -- the writer's promise, its answer as one number, which tells that answer but for its count
 pub record WritesCode (c : Checked Encoding) (before after : List ℕ) (r : ℕ) : Type 0 where

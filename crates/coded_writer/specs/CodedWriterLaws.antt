@@ -1,16 +1,19 @@
 -- What the writer and the dry call promise, as a call by codes promises it. Assumes nothing.
 use Rattle.std.specs.Prelude.{ℕ, zero, suc, ◌≤◌, ◌<◌, ◌≡◌, refl, Bool, List, eqb, length}
-use Rattle.std.proofs.Common.{sym, ap, subst, ◌∙◌, arith}
+use Rattle.std.proofs.Common.{sym, ap, ◌∙◌, arith, lit≤, le-leb}
 use Rattle.buffer.specs.Checked.{Checked, is, refused, then}
 use Rattle.color_encoding.specs.Codes.{unknown}
 use Rattle.color_encoding.specs.declared.JxlColorEncoding.{JxlColorEncoding}
 use Rattle.encoding_plan.specs.EncodingPlan.{encoding_as}
 use Rattle.encoding_plan.specs.declared.Encoding.{Encoding}
-use Rattle.writer.specs.Writer.{number, count_after, profile_by, Creates, MeasuresProfile}
+use Rattle.refusals.specs.Refusals.{number}
+use Rattle.refusals.specs.declared.Refusal.{Refusal}
+use Rattle.refusals.specs.declared.Refusal.TheVariants as R
+use Rattle.writer.specs.Writer.{number as number_of, count_after, Creates, MeasuresProfile}
 use Rattle.writer.specs.WriterLaws.{any_device}
-use Rattle.writer.specs.declared.Profile.{Profile}
+use Rattle.writer.specs.declared.Written.{Written}
 use Rattle.writer_laws.proofs.RefusalNumbers.{answer_told}
-use Rattle.coded_writer.specs.CodedWriter.{coded, mark_from, coded_by, code_answer, WritesCode, MeasuresCode, WritesCounted, MeasuresCounted}
+use Rattle.coded_writer.specs.CodedWriter.{coded, mark_from, coded_by, code_answer, Told, CreatesCode, MeasuresLength, WritesCode, MeasuresCode, WritesCounted, MeasuresCounted}
 
 -- ---- the number of the mark
 
@@ -37,36 +40,64 @@ any_device_by m a b i j c n = go (mark_from m)
     go (is x) = any_device_coded x a b i j c n
     go (refused k) = refl
 
--- ---- the answer q, as the one number that it is, without an output
+-- ---- one number tells the writer's answer
 
-pub code-measured : {e : Encoding} {n : ℕ} {p q : Profile} → MeasuresProfile e n p → p ≡ q → MeasuresCode (is e) n (number q)
-code-measured {e} {n} m same =
-    let known = sym same ∙ m.answer in
-    let any = any_device e n in
+-- a refusal's number is below 100
+small : (r : Refusal) → number r ≤ 99
+small R.UnsupportedTransferFunction = lit≤ tt
+small R.InvalidWhitePointY = lit≤ tt
+small R.InvalidWhitePoint = lit≤ tt
+small R.ChadOutOfRange = lit≤ tt
+small R.MatrixInversionFailed = lit≤ tt
+small R.ValueOutOfRange = lit≤ tt
+small R.GammaOutOfRange = lit≤ tt
+small R.TooShort = lit≤ tt
+small R.FileTooShort = lit≤ tt
+small R.WrongSize = lit≤ tt
+small R.WrongHeader = lit≤ tt
+small R.WrongIntent = lit≤ tt
+small R.WrongTable = lit≤ tt
+small R.WrongElements = lit≤ tt
+small R.OutOfRange = lit≤ tt
+small R.WrongId = lit≤ tt
+small R.EndsEarly = lit≤ tt
+small R.BytesLeft = lit≤ tt
+small R.Unknown = lit≤ tt
+small R.NotInLanguage = lit≤ tt
+small R.GammaIsZero = lit≤ tt
+small R.WrongDataSize = lit≤ tt
+small R.WrongSegments = lit≤ tt
+small R.SegmentsTooShort = lit≤ tt
+
+pub refusal_told : (r : Refusal) → Told (refused (number r))
+refusal_told r k = simp (le-leb (number r) 99 (small r))
+
+pub measured_told : {e : Encoding} {n : ℕ} {r : Checked Written} → MeasuresProfile e n r → MeasuresLength (is e) n r
+measured_told {e} {n} {r} m =
+    let same = any_device e n in
+    record { answer = m.answer; told = λ k. rw (m.answer, same) (answer_told e.adapted e.color m.held n k) }
+
+pub created_told : {e : Encoding} {before after : List ℕ} {r : Checked Written} → Creates e before after r → CreatesCode (is e) before after r
+created_told {e} {before} w =
+    let m = measured_told {e = e} {n = length before} (record { answer = w.writes.answer; held = w.held }) in
+    record { writes = w.writes; told = m.told }
+
+-- ---- the answer as that number
+
+pub code_measured : {c : Checked Encoding} {n : ℕ} {r : Checked Written} → MeasuresLength c n r → MeasuresCode c n (number_of r)
+code_measured m = record { told = λ k. rw (← m.answer) (m.told k); answer = ap number_of m.answer }
+
+pub code_written : {c : Checked Encoding} {before after : List ℕ} {r : Checked Written} → CreatesCode c before after r → WritesCode c before after (number_of r)
+code_written w =
     record {
-      told = λ k. ap (λ (r : Profile). profile_by (number r) (count_after (code_answer (is e) n) k)) known
-          ∙ ap (λ (r : Profile). profile_by (number r) (count_after r k)) any ∙ answer_told e.adapted e.color m.held n k ∙ sym any;
-      answer = ap number known;
+      writes = record { answer = ap number_of w.writes.answer; output = w.writes.output };
+      told = λ k. rw (← w.writes.answer) (w.told k);
     }
 
--- and with one
-pub code-written : {e : Encoding} {before after : List ℕ} {p q : Profile} → Creates e before after p → p ≡ q → WritesCode (is e) before after (number q)
-code-written {e} {before} w same =
-    let m = code-measured {e = e} {n = length before} (record { answer = w.writes.answer; held = w.held }) same in
-    record { writes = record { answer = m.answer; output = w.writes.output }; told = m.told }
+-- with the count in a lent number, which was k
+pub count_measured : {c : Checked Encoding} {n : ℕ} (k : ℕ) {r : Checked Written} → MeasuresLength c n r → MeasuresCounted c n k (count_after r k) (number_of r)
+count_measured k m = record { measures = code_measured m; rounded = ap (λ (a : Checked Written). count_after a k) m.answer }
 
--- ---- with the count in a lent number
-
-pub count_measured : {e : Encoding} {n : ℕ} (k : ℕ) {p : Profile} → MeasuresProfile e n p → MeasuresCounted (is e) n k (count_after p k) (number p)
-count_measured k m = record { measures = code-measured m refl; rounded = ap (λ (r : Profile). count_after r k) m.answer }
-
-pub count_written : {e : Encoding} {before after : List ℕ} (k : ℕ) {p : Profile} → Creates e before after p → WritesCounted (is e) before after k (count_after p k) (number p)
-count_written k w = record { writes = code-written w refl; rounded = ap (λ (r : Profile). count_after r k) w.writes.answer }
-
--- ---- of an encoding that the codes are known to mean
-
-pub written_as : {c d : Checked Encoding} {before after : List ℕ} {k m r : ℕ} → c ≡ d → WritesCounted c before after k m r → WritesCounted d before after k m r
-written_as {before = before} {after = after} {k = k} {m = m} {r = r} e w = subst (λ (x : Checked Encoding). WritesCounted x before after k m r) e w
-
-pub measured_as : {c d : Checked Encoding} {n k m r : ℕ} → c ≡ d → MeasuresCounted c n k m r → MeasuresCounted d n k m r
-measured_as {n = n} {k = k} {m = m} {r = r} e w = subst (λ (x : Checked Encoding). MeasuresCounted x n k m r) e w
+pub count_written : {c : Checked Encoding} {before after : List ℕ} (k : ℕ) {r : Checked Written} → CreatesCode c before after r
+    → WritesCounted c before after k (count_after r k) (number_of r)
+count_written k w = record { writes = code_written w; rounded = ap (λ (a : Checked Written). count_after a k) w.writes.answer }

@@ -1,8 +1,6 @@
--- The number and the count of what the writer answers, or 43 for a code without meaning. Assumes nothing.
+-- The number of the answer, and its count. Assumes nothing.
 use Rattle.coded_writer.specs.CodedWriterLaws.{count_written}
 use Rattle.coded_writer.proofs.write_counted.Goals as goal
 
 pub returns : goal.returns
-returns c =
-    rw (c.in-Known.is, c.answered.ensures.0, c.answered.ensures.1)
-    (count_written _ (rw c.plain_encoding.ensures at c.maybe_create_profile.ensures))
+returns c = rw (c.answered.ensures.0, c.answered.ensures.1, ← c.coded.ensures) (count_written _ c.created.ensures)
