@@ -7,5 +7,5 @@ pub mod RoundingLaws
 pub mod Fields
 pub mod FieldsLaws
 pub mod Narrow
-pub mod Contains
+pub mod ContainsLaws
 pub mod PatternLaws

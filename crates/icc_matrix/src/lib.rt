@@ -34,10 +34,5 @@ pub fn rows(m: [[f32; 3]; 3]) -> [f32; 9]
 pub fn columns(m: [[f32; 3]; 3]) -> [f32; 9]
     ensures { result ≡ columns m }
 {
-    let transpose = [
-        linalg::column(m, 0),
-        linalg::column(m, 1),
-        linalg::column(m, 2),
-    ];
-    linalg::rows(transpose)
+    linalg::columns(m)
 }

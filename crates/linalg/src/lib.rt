@@ -31,6 +31,14 @@ pub fn rows<T: Copy>(m: [[T; 3]; 3]) -> [T; 9]
     [a, b, c, d, e, f, g, h, i]
 }
 
+// The nine entries, column by column.
+pub fn columns<T: Copy>(m: [[T; 3]; 3]) -> [T; 9]
+    ensures { (d : T) → result ≡ three (λ i. entry_or d m i 0) ++ three (λ i. entry_or d m i 1) ++ three (λ i. entry_or d m i 2) }
+{
+    let [[a, b, c], [d, e, f], [g, h, i]] = m;
+    [a, d, g, b, e, h, c, f, i]
+}
+
 // The sum of the products of like components. It starts with its first term.
 #[tactic(auto, unfolding(crate::specs::Linalg::dot))]
 pub fn dot(a: Vector3, b: Vector3) -> f64
@@ -50,7 +58,8 @@ pub fn mul_3x3_vector(matrix: Matrix3x3, vector: Vector3) -> Vector3
     ]
 }
 
-// A row of the product of two matrices, from that row of the first.
+// A row of the product of two matrices, from that row of the first. (Arrays are written out: with `map` or `from_fn` at a closure that captures,
+// as here, the proof was tried and didn't close.)
 fn product_row(row: Vector3, matrix: Matrix3x3) -> Vector3
     ensures { result ≡ three (λ j. dot row (column matrix j)) }
 {

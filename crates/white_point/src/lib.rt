@@ -14,7 +14,7 @@ use linalg::Vector3;
 use refusals::Refusal;
 
 // x lies in [0, 1] and y in (0, 1].
-#[tactic(auto, unfolding(color_encoding::specs::Range::in_range))]
+#[tactic(auto, using(floats::specs::ContainsLaws::partial_le_is), unfolding(color_encoding::specs::Range::in_range))]
 pub fn in_range(white: WhiteXy) -> bool
     ensures { result ≡ in_range white }
 {

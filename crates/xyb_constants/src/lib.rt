@@ -7,6 +7,7 @@ ghost use Rattle.std.specs.Prelude.{◌≡◌};
 ghost use Rattle.xyb_constants.specs.XybNumbers.{clut, m_curves, matrix, chad};
 
 // The color look-up table of A2B0: three values for each corner of a cube.
+#[tactic(auto, using(crate::proofs::XybNumbersLaws::clut_is))]
 pub fn clut() -> [u16; 24]
     ensures { result ≡ clut }
 {
@@ -31,6 +32,7 @@ pub fn clut() -> [u16; 24]
 }
 
 // The M curves of A2B0, parametric curves of type 3, as fixed numbers: gamma, a, b, c, d of each.
+#[tactic(auto, using(crate::proofs::XybNumbersLaws::m_curves_is))]
 pub fn m_curves() -> [i32; 15]
     ensures { result ≡ m_curves }
 {
@@ -45,6 +47,7 @@ pub fn m_curves() -> [i32; 15]
 }
 
 // The matrix of A2B0 as fixed numbers, row by row, then the three intercepts.
+#[tactic(auto, using(crate::proofs::XybNumbersLaws::matrix_is))]
 pub fn matrix() -> [i32; 12]
     ensures { result ≡ matrix }
 {
@@ -57,6 +60,7 @@ pub fn matrix() -> [i32; 12]
 }
 
 // The adaptation of D65 to D50 as fixed numbers, row by row.
+#[tactic(auto, using(crate::proofs::XybNumbersLaws::chad_is))]
 pub fn chad() -> [i32; 9]
     ensures { result ≡ chad }
 {

@@ -2,7 +2,7 @@
 use Rattle.std.proofs.Common.{◌≡◌, refl}
 use Rattle.std.specs.Float.{binary32}
 use Rattle.std.specs.Float.Ieee.{of_bits, neg}
-use Rattle.floats.specs.Contains.{partial_le_is}
+use Rattle.floats.specs.ContainsLaws.{partial_le_is}
 use Rattle.validate.proofs.is_s15_fixed_16.Goals as goal
 
 lower : neg (of_bits binary32 0x46ff_fffd) ≡ of_bits binary32 0xc6ff_fffd
