@@ -1,7 +1,7 @@
 -- What a struct can hold is read back from its bytes, and it can hold every plan. Assumes nothing.
 use Rattle.std.specs.Prelude.{ℕ, ◌+◌, ◌*◌, ◌≤◌, ◌≡◌, refl, Bool, true, false, cond, ℤ, pos, length, take, drop, Option, Some, None}
 use Rattle.std.proofs.Math.Path.{ap, ap₂, sym}
-use Rattle.std.proofs.Common.{◌∙◌, inl, inr, arith, lit<, length-append, drop_at, SFits}
+use Rattle.std.proofs.Common.{◌∙◌, arith, lit<, length-append, drop_at, SFits}
 use mathlib.Core.List.{List, [], ◌∷◌, ◌++◌, append_assoc, map}
 use Rattle.std.proofs.Math.ListN.{get_or}
 use Rattle.std.proofs.lemmas.List.{length-map, length-replicate}
@@ -171,10 +171,7 @@ gamma_fits (Gamma g) h = h
 
 cicp_word : (c : Curve) (v : Option ℕ) → GoodCicp c v → Word (cicp_number v)
 cicp_word c None h = lit< tt
-cicp_word (Named n) (Some v) (inl e) = omega arith
-cicp_word (Named n) (Some v) (inr (inl e)) = omega arith
-cicp_word (Named n) (Some v) (inr (inr (inl e))) = omega arith
-cicp_word (Named n) (Some v) (inr (inr (inr e))) = omega arith
+cicp_word (Named n) (Some v) h = grind arith
 cicp_word (Gamma g) (Some v) h = absurd h
 
 nine_zeros_lem : Nine nine_zeros

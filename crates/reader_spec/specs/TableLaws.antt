@@ -1,16 +1,19 @@
 -- What reading the regions of a file of elements gives. Assumes nothing.
-use Rattle.std.specs.Prelude.{ℕ, zero, suc, ◌+◌, ◌*◌, ◌^◌, ◌<◌, ◌≡◌, refl, length, take, drop, get_or, replicate}
+use Rattle.std.specs.Prelude.{ℕ, ◌+◌, ◌*◌, ◌^◌, ◌<◌, ◌≡◌, refl, length, take, drop, get_or, replicate}
 use Rattle.std.proofs.Common.{ap, ap₂, ◌∙◌, length-append, take_at}
 use Rattle.std.proofs.Math.Path.{sym}
 use mathlib.Core.List.{List, [], ◌∷◌, ◌++◌, map, append_assoc}
 use native.Mathlib.Omega.{arith}
+use Rattle.std.proofs.Math.ListN.{get_or-map}
 use Rattle.std.proofs.Math.Seq.{drop_at, drop-drop, take-append_seam}
+use Rattle.std.proofs.lemmas.List.{map-append}
+use Rattle.std.proofs.lemmas.Simd.{map-map}
 use Rattle.words.specs.Words.{be32, word32}
 use Rattle.words.specs.WordsLaws.{length-be32, word32_be32}
 use Rattle.buffer.specs.All.{All, none, more}
 use Rattle.buffer.specs.AllLaws.{All-append}
 use Rattle.profile.specs.Elements
-use Rattle.profile.specs.ElementsLaws.{Four, Fours, map-append, length-padded, length-entries, length-entry_bytes, length-table}
+use Rattle.profile.specs.ElementsLaws.{Four, Fours, length-padded, length-entries, length-entry_bytes, length-table}
 use Rattle.reader_spec.specs.Table
 
 -- ---- a line
@@ -108,15 +111,6 @@ unfoldable pub tails : List Elements.Element → List (List ℕ)
 tails [] = []
 tails (e ∷ es) = map (λ (s : List ℕ). Elements.body (e ∷ es)) e.signatures ++ tails es
 
-map-map : {A B C : Type 0} (g : B → C) (f : A → B) (a : List A) → map g (map f a) ≡ map (λ x. g (f x)) a
-map-map g f [] = refl
-map-map g f (x ∷ a) = ap (λ l. g (f x) ∷ l) (map-map g f a)
-
-get_d_map : {A B : Type 0} (g : A → B) (l : List A) (i : ℕ) (a : A) → g (get_or l i a) ≡ get_or (map g l) i (g a)
-get_d_map g [] i a = refl
-get_d_map g (x ∷ l) zero a = refl
-get_d_map g (x ∷ l) (suc i) a = get_d_map g l i a
-
 -- the first element, its padding and the elements after it
 pub body_front : (e : Elements.Element) (es : List Elements.Element)
     → Elements.body (e ∷ es) ≡ e.bytes ++ (replicate (Elements.padding (length e.bytes)) 0 ++ Elements.body es)
@@ -172,5 +166,5 @@ module _ (h : List ℕ) (es : List Elements.Element) (len : length h ≡ 128) (f
   -- from the element that line i names on
   pub tails_file : (i : ℕ) → drop (Table.line_in (Elements.file h es) i).offset (Elements.file h es) ≡ get_or (tails es) i (Elements.file h es)
   tails_file i =
-      get_d_map (λ (l : Elements.Entry). drop l.offset (Elements.file h es)) (Table.entries_of (Elements.file h es)) i Table.absent
+      sym (get_or-map (λ (l : Elements.Entry). drop l.offset (Elements.file h es)) (Table.entries_of (Elements.file h es)) i Table.absent)
       ∙ rw (entries_file, tails_read (Elements.file h es) (Elements.start (map Elements.slot es)) es drop-start)

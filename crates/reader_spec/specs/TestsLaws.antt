@@ -1,6 +1,7 @@
 -- Each of the reader's tests is true exactly if what it tests holds. Assumes nothing.
-use Rattle.std.specs.Prelude.{ℕ, ◌≡◌, refl, ◌⊎◌, Bool, true, false, ◌||◌, List, [], ◌∷◌, T, leb, eqb, ℤ, nat_abs, Option, Some, None}
-use Rattle.std.proofs.Common.{inl, inr, le-leb, leb→le, eqb→eq}
+use Rattle.std.specs.Prelude.{ℕ, ◌≡◌, refl, true, ◌||◌, List, [], ◌∷◌, leb, eqb, ℤ, nat_abs, Option, Some, None}
+use Rattle.std.proofs.Common.{le-leb, leb→le, arith}
+use Rattle.std.proofs.lemmas.Bool.Decides.{nat_tests}
 use Rattle.numbers.specs.Fixed.{largest}
 use Rattle.buffer.specs.All.{All, none, more}
 use Rattle.buffer.specs.BoolLaws.{holds, both, both_left, both_right}
@@ -49,28 +50,10 @@ curve_in_range_of (Gamma g) h = in_range_of g h
 -- ---- `cicp`
 
 value_if : (v : ℕ) → (eqb v 1 || (eqb v 9 || (eqb v 11 || eqb v 12))) ≡ true → CicpPrimaries v
-value_if v e = one (eqb v 1) (eqb→eq v 1) e
-  where
-    four : (d : Bool) → (T d → v ≡ 12) → d ≡ true → v ≡ 12
-    four d h e = h (holds e)
-
-    three : (c : Bool) → (T c → v ≡ 11) → (c || eqb v 12) ≡ true → (v ≡ 11) ⊎ (v ≡ 12)
-    three true h e = inl (h tt)
-    three false h e = inr (four (eqb v 12) (eqb→eq v 12) e)
-
-    two : (b : Bool) → (T b → v ≡ 9) → (b || (eqb v 11 || eqb v 12)) ≡ true → (v ≡ 9) ⊎ ((v ≡ 11) ⊎ (v ≡ 12))
-    two true h e = inl (h tt)
-    two false h e = inr (three (eqb v 11) (eqb→eq v 11) e)
-
-    one : (a : Bool) → (T a → v ≡ 1) → (a || (eqb v 9 || (eqb v 11 || eqb v 12))) ≡ true → CicpPrimaries v
-    one true h e = inl (h tt)
-    one false h e = inr (two (eqb v 9) (eqb→eq v 9) e)
+value_if v e = grind (arith, nat_tests)
 
 value_of : (v : ℕ) → CicpPrimaries v → (eqb v 1 || (eqb v 9 || (eqb v 11 || eqb v 12))) ≡ true
-value_of v (inl e) = rw e
-value_of v (inr (inl e)) = rw e
-value_of v (inr (inr (inl e))) = rw e
-value_of v (inr (inr (inr e))) = rw e
+value_of v h = grind (arith, nat_tests)
 
 pub cicp_if : (n : CurveName) (v : Option ℕ) → Tests.cicp_good v ≡ true → GoodCicp (Named n) v
 cicp_if n None e = tt
