@@ -2,27 +2,24 @@
 use Rattle.std.specs.Prelude.{ℕ, List, [], ◌∷◌, ◌++◌, length}
 use Rattle.buffer.specs.Ascii.{ascii}
 use Rattle.buffer.specs.Checked.{Checked, is, refused}
-use Rattle.numbers.specs.Rounded.{Counted}
+use Rattle.numbers.specs.declared.fixed.Counted.{Counted}
 use Rattle.digits.specs.Digits.{digits}
 use Rattle.profile.specs.TagTypes.{join}
 use Rattle.profile.specs.Plan.{Plan}
 use Rattle.profile.specs.Layout.{layout}
 use Rattle.encoding_plan.specs.PlanOf.{plan_of}
 use Rattle.encoding_plan.specs.FixedFloats.{counted_plan}
-use Rattle.writer.specs.declared.Profile.{Profile}
-use Rattle.writer.specs.declared.Profile.TheVariants as P
+use Rattle.writer.specs.Writer.{profile}
+use Rattle.writer.specs.declared.Written.{Written}
+use Rattle.job.specs.Job.{number}
 use Rattle.job.specs.declared.JobEntry.{JobEntry}
-use Rattle.job.specs.declared.JobAnswer.{JobAnswer}
-use Rattle.job.specs.declared.JobAnswer.TheVariants as A
-use Rattle.entry_output.specs.declared.Stream.{Stream}
-use Rattle.entry_output.specs.declared.Stream.TheVariants as S
 
 -- ---- an entry with enough output
 
 -- what the writer answers
-abbrev pub enough : Checked (Counted Plan) → Profile
-enough (is p) = P.Written (length (layout p.value)) p.rounded
-enough (refused k) = P.Refused k
+abbrev pub enough : Checked (Counted Plan) → Checked Written
+enough (is p) = profile (length (layout p.value)) p.rounded
+enough (refused k) = refused k
 
 -- its profile; of a refused entry nothing
 abbrev pub profile_bytes : Checked Plan → List ℕ
@@ -34,25 +31,23 @@ profile_bytes (refused k) = []
 abbrev newline : List ℕ
 newline = 10 ∷ []
 
-abbrev pub length_or_refusal : Profile → List ℕ
-length_or_refusal (P.Written n k) = digits n
-length_or_refusal (P.Refused k) = ascii "refused " ++ digits k
+abbrev pub length_or_refusal : Checked Written → List ℕ
+length_or_refusal (is w) = digits w.length
+length_or_refusal (refused k) = ascii "refused " ++ digits k
 
 -- section, entry from 1, and length or refusal
 unfoldable pub entry_line : JobEntry → List ℕ
-entry_line e = join (digits e.section ∷ ascii " " ∷ digits e.place ∷ ascii " " ∷ length_or_refusal (enough (counted_plan e.encoding)) ∷ newline ∷ [])
+entry_line e = join (digits (number e.section) ∷ ascii " " ∷ digits e.place ∷ ascii " " ∷ length_or_refusal (enough (counted_plan e.encoding)) ∷ newline ∷ [])
 
 -- the number of entries; of a bad job only its refusal
-unfoldable pub first_line : JobAnswer → List ℕ
-first_line (A.Entries n) = join (ascii "profiles " ∷ digits n ∷ newline ∷ [])
-first_line (A.Refused k) = join (ascii "job refused " ∷ digits k ∷ newline ∷ [])
+unfoldable pub first_line : Checked ℕ → List ℕ
+first_line (is n) = join (ascii "profiles " ∷ digits n ∷ newline ∷ [])
+first_line (refused k) = join (ascii "job refused " ∷ digits k ∷ newline ∷ [])
 
--- ---- the two outputs: what comes first, and what each entry adds
+-- ---- the profiles one after another: nothing comes first, and each entry adds its profile
 
-abbrev pub head_of : Stream → JobAnswer → List ℕ
-head_of S.Listing a = first_line a
-head_of S.Profiles a = []
+abbrev pub no_line : Checked ℕ → List ℕ
+no_line a = []
 
-abbrev pub part_of : Stream → JobEntry → List ℕ
-part_of S.Listing e = entry_line e
-part_of S.Profiles e = profile_bytes (plan_of e.encoding)
+abbrev pub profile_part : JobEntry → List ℕ
+profile_part e = profile_bytes (plan_of e.encoding)

@@ -6,6 +6,7 @@ use Rattle.std.proofs.Math.Seq.{drop-length}
 use borrow.Rule.Slice.PartMut.{mid_of, put_mid}
 use Rattle.buffer.specs.Buffer.{put}
 use Rattle.buffer.specs.Checked.{Checked, is, refused}
+use Rattle.buffer.specs.CheckedLaws.{never}
 use Rattle.buffer.specs.Puts.{PutsText}
 use Rattle.buffer.specs.BufferLaws.{length-put, put_nothing, put_behind}
 use Rattle.buffer.specs.PutsLaws.{in_front}
@@ -19,17 +20,18 @@ use Rattle.profile.specs.Layout.{layout}
 use Rattle.encoding_plan.specs.PlanOf.{plan_of}
 use Rattle.encoding_plan.specs.FixedFloats.{fixed_floats, counted_plan}
 use Rattle.writer.specs.Writer.{answer, output, max_written}
-use Rattle.writer.specs.declared.Profile.{Profile}
-use Rattle.writer.specs.declared.Profile.TheVariants as P
+use Rattle.writer.specs.declared.Written.{Written}
 use Rattle.writer_laws.proofs.WrittenLength.{written_length}
 use Rattle.writer_laws.proofs.RefusalNumbers.{refusal_number_lem}
 use Rattle.job.specs.declared.JobEntry.{JobEntry}
-use Rattle.job.specs.declared.JobAnswer.{JobAnswer}
-use Rattle.job.specs.declared.JobAnswer.TheVariants as A
+use Rattle.job.specs.Job.{number}
+use Rattle.job.specs.BoundsLaws.{section_number}
+use Rattle.job.specs.declared.Section.{Section}
 use Rattle.entry_output.specs.EntryOutput.{enough, profile_bytes, length_or_refusal, entry_line, first_line}
 use Rattle.line_text.specs.LineText.{SmallAnswer, place_text, first_text}
-use Rattle.entry_output.specs.Steps.{LineIs, Small}
-use Rattle.entry_output.specs.declared.Line.{Line}
+use Rattle.entry_output.specs.Steps.{Small}
+use Rattle.buffer.specs.Texts.{IsText}
+use Rattle.buffer.specs.declared.Text.{Text}
 
 -- ---- 1,200 bytes are enough
 
@@ -55,26 +57,28 @@ small_answer e h = go (plan_of e) refl
     go (is p) q = omega (arith, (written_length false e h q).1)
     go (refused k) q = omega (arith, (refusal_number_lem false e q).1)
 
-pub written_is : (xs : List Float) (c : Checked Plan) {n k : ℕ} → enough (counted xs c) ≡ P.Written n k → n ≡ length (profile_bytes c)
+pub written_is : (xs : List Float) (c : Checked Plan) {w : Written} → is w ≡ enough (counted xs c) → w.length ≡ length (profile_bytes c)
 written_is xs (is p) h = cc
-written_is xs (refused k) h = let zero_one : ◌≡◌ {A = ℕ} 0 1 = cc in absurd (omega arith)
+written_is xs (refused k) h = absurd (never (sym h))
 
-pub refused_is : (xs : List Float) (c : Checked Plan) {k : ℕ} → enough (counted xs c) ≡ P.Refused k → 0 ≡ length (profile_bytes c)
-refused_is xs (is p) h = let zero_one : ◌≡◌ {A = ℕ} 0 1 = cc in absurd (omega arith)
+pub refused_is : (xs : List Float) (c : Checked Plan) {k : ℕ} → refused k ≡ enough (counted xs c) → 0 ≡ length (profile_bytes c)
+refused_is xs (is p) h = absurd (never h)
 refused_is xs (refused k) h = refl
 
 -- ---- how long the parts of a line are
 
-pub length-place : (s k : ℕ) → s ≤ 3 → k ≤ 255 → length (place_text s k) ≤ 6
-length-place s k a b = simp length-append (omega (arith, length_digits 0 s (omega arith), length_digits 2 k (omega arith)))
+pub length-place : (s : Section) (k : ℕ) → k ≤ 255 → length (place_text s k) ≤ 6
+length-place s k b =
+    let a = section_number s in
+    simp length-append (omega (arith, length_digits 0 (number s) (omega arith), length_digits 2 k (omega arith)))
 
-pub length-answer : (a : Profile) → Small a → length (length_or_refusal a) ≤ 12
-length-answer (P.Written n k) h = omega (arith, length_digits 3 n h)
-length-answer (P.Refused k) h = simp length-append (omega (arith, length_digits 3 k h))
+pub length-answer : (a : Checked Written) → Small a → length (length_or_refusal a) ≤ 12
+length-answer (is w) h = omega (arith, length_digits 3 w.length h)
+length-answer (refused k) h = simp length-append (omega (arith, length_digits 3 k h))
 
-pub length-first : (a : JobAnswer) → SmallAnswer a → length (first_text a) ≤ 16
-length-first (A.Entries n) h = simp length-append (omega (arith, length_digits 3 n h))
-length-first (A.Refused k) h = simp length-append (omega (arith, length_digits 3 k h))
+pub length-first : (a : Checked ℕ) → SmallAnswer a → length (first_text a) ≤ 16
+length-first (is n) h = simp length-append (omega (arith, length_digits 3 n h))
+length-first (refused k) h = simp length-append (omega (arith, length_digits 3 k h))
 
 -- ---- lines
 
@@ -82,26 +86,26 @@ pub entry_line_is : (e : JobEntry) → entry_line e ≡ place_text e.section e.p
 unfolding entry_line join
 entry_line_is e = simp append_assoc
 
-pub first_line_is : (a : JobAnswer) → first_line a ≡ first_text a ++ (10 ∷ [])
+pub first_line_is : (a : Checked ℕ) → first_line a ≡ first_text a ++ (10 ∷ [])
 unfolding first_line join
-first_line_is (A.Entries n) = simp append_assoc
-first_line_is (A.Refused k) = simp append_assoc
+first_line_is (is n) = simp append_assoc
+first_line_is (refused k) = simp append_assoc
 
 -- what was put to the front of 24 zeros
-pub line_is : (q : List ℕ) {r : ℕ} {o : List ℕ} → length q ≤ 24 → PutsText (replicate 24 0) 0 q r o → LineIs q (record { bytes = o; len = r })
+pub line_is : (q : List ℕ) {r : ℕ} {o : List ℕ} → length q ≤ 24 → PutsText (replicate 24 0) 0 q r o → IsText {N = 24} q (record { bytes = o; len = r })
 line_is q h p = let f = in_front 24 p in record { len = f.0; short = omega (arith, f.0); bytes = f.1 }
 
 -- the 24 bytes stay 24
 pub line_length : (q : List ℕ) {r : ℕ} {o : List ℕ} → length q ≤ 24 → PutsText (replicate 24 0) 0 q r o → length o ≡ 24
 line_length q {r} {o} h p = ap length p.bytes ∙ length-put (replicate 24 0) 0 q (rw length-replicate (omega arith)) ∙ length-replicate {A = ℕ} 24 0
 
-pub empty_line : LineIs [] (record { bytes = replicate 24 0; len = 0 })
+pub empty_line : IsText {N = 24} [] (record { bytes = replicate 24 0; len = 0 })
 empty_line = record { len = refl; short = omega arith; bytes = refl }
 
-pub line_room : {q : List ℕ} {r : Line} → LineIs q r → r.len ≤ length r.bytes
+pub line_room : {q : List ℕ} {r : Text 24} → IsText q r → r.len ≤ length r.bytes
 line_room {q} {r} h = rw (h.bytes, length-append, length-replicate) (omega (arith, h.len, h.short))
 
-pub line_text : {q : List ℕ} {r : Line} → LineIs q r → take r.len r.bytes ≡ q
+pub line_text : {q : List ℕ} {r : Text 24} → IsText q r → take r.len r.bytes ≡ q
 line_text {q} {r} h = rw h.bytes (take_at q (replicate (24 - length q) 0) r.len (sym h.len))
 
 -- ---- a profile written to the part of an output from a place on

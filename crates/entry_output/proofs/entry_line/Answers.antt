@@ -1,14 +1,12 @@
 -- Three runs of bytes in front of 24 zeros. Assumes nothing.
-use Prim.Native.Nat.{ℕ, ◌+◌, ◌≤◌}
-use mathlib.Core.Path.{◌≡◌, refl, sym, ap, subst}
-use mathlib.Core.List.{List, [], ◌∷◌, ◌++◌}
-use native.Mathlib.Omega.{arith}
-use lib.ListN.{length, replicate, length-append}
+use Rattle.std.proofs.Common.{◌≡◌, ℕ, ◌≤◌, List, [], ◌∷◌, ◌++◌, length, refl, sym, ap, subst, arith, length-append}
+use Rattle.buffer.specs.Bytes.{zeros}
+use Rattle.buffer.specs.Checked.{Checked}
 use Rattle.buffer.specs.Puts.{PutsText}
 use Rattle.buffer.specs.PutsLaws.{then, same, wrote}
 use Rattle.job.specs.declared.JobEntry.{JobEntry}
 use Rattle.encoding_plan.specs.FixedFloats.{counted_plan}
-use Rattle.writer.specs.declared.Profile.{Profile}
+use Rattle.writer.specs.declared.Written.{Written}
 use Rattle.entry_output.specs.EntryOutput.{enough, length_or_refusal}
 use Rattle.line_text.specs.LineText.{place_text}
 use Rattle.entry_output.specs.Steps.{Small}
@@ -21,7 +19,7 @@ abbrev front : JobEntry → List ℕ
 front e = place_text e.section e.place ++ length_or_refusal (enough (counted_plan e.encoding))
 
 record Texted (e : JobEntry) (r : ℕ) (o : List ℕ) : Type 0 where
-  puts : PutsText (replicate 24 0) 0 (front e) r o
+  puts : PutsText (zeros 24) 0 (front e) r o
   short : length (front e) ≤ 18
   size : r ≡ length (front e)
   room : length o ≡ 24
@@ -31,7 +29,7 @@ texted c =
     let e = c.args.entry in
     let a = enough (counted_plan e.encoding) in
     let few : length (front e) ≤ 18 =
-    rw length-append (omega (arith, length-place e.section e.place c.requires.section c.requires.place, length-answer a (small_answer e.encoding c.requires.floats))) in
+    rw length-append (omega (arith, length-place e.section e.place c.requires.place, length-answer a (small_answer e.encoding c.requires.floats))) in
     let told = same (length_or_refusal a) c.put_answer-end.ensures (ap length_or_refusal (sym c.measure.ensures)) in
     let both = then (front e) (omega arith) c.put_place-at.ensures told refl in
     record {
@@ -44,14 +42,14 @@ texted c =
 pub put_answer-end-requires : goal.put_answer-end-requires
 put_answer-end-requires c =
     let e = c.args.entry in
-    let short = length-place e.section e.place c.requires.section c.requires.place in
+    let short = length-place e.section e.place c.requires.place in
     let place = c.put_place-at in (
-      subst (λ (a : Profile). Small a) (sym c.measure.ensures) (small_answer e.encoding c.requires.floats),
+      subst (λ (a : Checked Written). Small a) (sym c.measure.ensures) (small_answer e.encoding c.requires.floats),
       omega (arith, short, place.ensures.place, line_length (place_text e.section e.place) (omega (arith, short)) place.ensures),
     )
 
 pub put_byte-len-requires : goal.put_byte-len-requires
-put_byte-len-requires c = omega (arith, (texted (goal.at.put_byte-len-requires c).After-put_answer-end).room, (texted (goal.at.put_byte-len-requires c).After-put_answer-end).size, (texted (goal.at.put_byte-len-requires c).After-put_answer-end).short)
+put_byte-len-requires c = let t = texted (goal.at.put_byte-len-requires c).After-put_answer-end in omega (arith, t.room, t.size, t.short)
 
 pub returns : goal.returns
 returns c =

@@ -1,6 +1,5 @@
 -- 1,200 bytes are enough for every profile. Assumes nothing.
-use mathlib.Core.Path.{ap, ◌∙◌}
-use lib.Dec.{lit≤}
+use Rattle.std.proofs.Common.{ap, ◌∙◌, lit≤}
 use Rattle.encoding_plan.specs.EncodingPlanLaws.{plain_counted}
 use Rattle.writer.specs.Writer.{answer, max_written}
 use Rattle.entry_output.specs.EntryOutputLaws.{enough_answer}
@@ -9,5 +8,5 @@ use Rattle.entry_output.proofs.measure.Goals as goal
 pub returns : goal.returns
 returns c =
     let e = c.args.encoding in
-    let call = rw c.plain_encoding.ensures at c.profile_length.ensures in
+    let call = rw c.into.ensures at c.profile_length.ensures in
     call.answer ∙ ap (λ p. answer p max_written) (plain_counted e) ∙ enough_answer e call.held max_written (lit≤ tt)
