@@ -4,10 +4,12 @@
 
 ghost use Rattle.std.specs.Prelude.{◌≡◌, ◌+◌, ◌-◌, ◌*◌, ◌/◌, ◌^◌, ◌≤◌, ◌<◌, length};
 ghost use Rattle.buffer.specs.Puts.{Puts, PutsText};
+ghost use Rattle.refusals.specs.Refusals.{checked};
 ghost use Rattle.app2.specs.Segments.{front, segment_bytes, bytes, cut, segments};
 ghost use Rattle.app2.specs.App2.{max_data, max_segments, written_segments, Gives};
 
-use app2::{FRONT_SIZE, LENGTH_WITHOUT_DATA, MAX_DATA, MAX_SEGMENTS, Output};
+use app2::{FRONT_SIZE, LENGTH_WITHOUT_DATA, MAX_DATA, MAX_SEGMENTS};
+use refusals::Refusal;
 
 // What stands in front of n bytes of data.
 fn put_front(out: &mut [u8], at: usize, n: usize, sequence: u8, count: u8) -> usize
@@ -34,80 +36,40 @@ fn put_segments(out: &mut [u8], file: &[u8], size: usize, count: usize) -> usize
     requires { (1 ≤ size) × (size ≤ max_data) × (count ≡ length (cut size file.now)) × (count ≤ max_segments) × (length (bytes (segments size file.now)) ≤ length out.old) }
     ensures { PutsText out.old 0 (bytes (segments size file.now)) result out.new }
 {
-    let mut sequence = 1usize;
-    let mut from = 0usize;
     let mut at = 0usize;
-    while from < file.len() {
-        let to = from + app2::least(size, file.len() - from);
-        at = put_segment(out, at, sequence as u8, count as u8, &file[from..to]);
-        from = to;
-        sequence += 1;
+    for (i, chunk) in file.chunks(size).enumerate() {
+        at = put_segment(out, at, (i + 1) as u8, count as u8, chunk);
     }
     at
 }
 
-// Bytes that are left, and how many segments hold the others.
-#[derive(Clone, Copy)]
-struct Held {
-    left: usize,
-    count: usize,
-}
-
-// One binary digit of a quotient: `step` segments more, where so many bytes are left.
-fn held_by(h: Held, step: usize, size: usize) -> Held
-    requires { (h.left < 2 * (step * size)) × (step * size ≤ 2 ^ 32) × (h.count + step ≤ max_segments) }
-    ensures { (result.left < step * size) × (result.left + result.count * size ≡ h.left + h.count * size) × (result.count ≤ h.count + step) }
-{
-    let part = step * size;
-    if h.left < part {
-        return h;
-    }
-    Held {
-        left: h.left - part,
-        count: h.count + step,
-    }
-}
-
-// How many segments hold n bytes: a quotient of eight binary digits, since nothing in the library divides integers.
+// How many segments hold n bytes: a quotient by its eight binary digits, since nothing in the library divides integers.
 fn segments_for(n: usize, size: usize) -> usize
     requires { (1 ≤ size) × (size ≤ max_data) × (n ≤ max_segments * size) }
     ensures { result ≡ (n + (size - 1)) / size }
 {
-    let h = Held {
-        left: n + (size - 1),
-        count: 0,
-    };
-    let h = held_by(h, 128, size);
-    let h = held_by(h, 64, size);
-    let h = held_by(h, 32, size);
-    let h = held_by(h, 16, size);
-    let h = held_by(h, 8, size);
-    let h = held_by(h, 4, size);
-    let h = held_by(h, 2, size);
-    let h = held_by(h, 1, size);
-    h.count
+    let mut left = n + (size - 1);
+    let mut count = 0;
+    for digit in [128, 64, 32, 16, 8, 4, 2, 1] {
+        if digit * size <= left {
+            left -= digit * size;
+            count += digit;
+        }
+    }
+    count
 }
 
 // Puts a file into segments of `size` bytes of data, to the front of the output. On a refusal no byte of the output changes.
-pub fn write_segments(file: &[u8], size: usize, out: &mut [u8]) -> Output
-    ensures { Gives (written_segments file.now size (length out.old)) out.old out.new result }
+pub fn write_segments(file: &[u8], size: usize, out: &mut [u8]) -> Result<u32, Refusal>
+    ensures { Gives (written_segments file.now size (length out.old)) out.old out.new (checked result) }
 {
-    let reading = reader::read(file);
-    if reading.refusal != 0 {
-        return Output::Refused(reading.refusal);
-    }
-    if size < 1 {
-        return Output::Refused(app2::WRONG_SIZE);
-    }
-    if size > MAX_DATA {
-        return Output::Refused(app2::WRONG_SIZE);
-    }
-    if file.len() > MAX_SEGMENTS * size {
-        return Output::Refused(app2::WRONG_SIZE);
+    reader::read(file)?;
+    if size < 1 || size > MAX_DATA || file.len() > MAX_SEGMENTS * size {
+        return Err(Refusal::WrongDataSize);
     }
     let count = segments_for(file.len(), size);
     if out.len() < file.len() + FRONT_SIZE * count {
-        return Output::Refused(app2::TOO_SHORT);
+        return Err(Refusal::SegmentsTooShort);
     }
-    Output::Written(put_segments(out, file, size, count) as u32)
+    Ok(put_segments(out, file, size, count) as u32)
 }

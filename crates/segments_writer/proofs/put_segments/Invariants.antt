@@ -1,11 +1,8 @@
-use Prim.Native.Nat.{◌-◌}
-use mathlib.Core.Path.{◌≡◌}
-use lib.ListN.{length}
+use Rattle.std.proofs.Common.{◌+◌, ◌≡◌, length}
 use Rattle.segments_writer.specs.WritingLaws.{Writing}
 use Rattle.segments_writer.proofs.put_segments.Given as goal
 
-abbrev pub invariant-loop-from : goal.invariant-loop-from
-invariant-loop-from l = Writing l.size l.file l.initial.out l.sequence l.from l.at l.out × (length l.out ≡ length l.initial.out)
-
-abbrev pub decreases-loop-from : goal.decreases-loop-from
-decreases-loop-from l = length l.file - l.from
+abbrev pub invariant-loop-i : goal.invariant-loop-i
+invariant-loop-i l =
+    let chunks = l.i-iterator.iter in
+    Writing l.size l.file l.fn.out (l.i-iterator.count + 1) chunks.rest.now l.at l.out × (chunks.size ≡ l.size) × (length l.out ≡ length l.fn.out)
