@@ -26,7 +26,6 @@ fn shifted(n: u64, d: u64) -> Quotient
 }
 
 // n / 2^d to the nearest whole number, a tie to the even one.
-#[tactic(auto, using(crate::proofs::Quotients::far_closest))]
 pub fn nearest_shifted(n: u64, d: u64) -> u64
     requires { n < 2 ^ 63 }
     ensures { result ≡ closest n (2 ^ d) }
@@ -53,7 +52,6 @@ fn rounds_up(q: Quotient) -> bool
 }
 
 // n / 2^d to the nearest whole number, a half up.
-#[tactic(auto, using(crate::proofs::Quotients::far_halves, crate::proofs::Quotients::half_above, crate::proofs::Quotients::half_below))]
 pub fn halves_up_shifted(n: u64, d: u64) -> u64
     requires { n < 2 ^ 63 }
     ensures { result ≡ halves_up n (2 ^ d) }
