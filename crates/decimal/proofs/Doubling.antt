@@ -1,49 +1,91 @@
--- A number in five parts of eight digits: doubled part by part, and bounded by its highest part.
+-- A number in parts of eight digits, doubled part by part from the lowest on, and its digits from the highest on.
 -- Assumes nothing.
-use mathlib.Core.Path.{◌≡◌, sym, ap, ◌∙◌}
-use Prim.Native.Nat.{ℕ, ◌+◌, ◌*◌, ◌^◌, ◌≤◌, ◌<◌}
-use native.Mathlib.Nat.{le_trans, lt_of_not-le, not-le_of_lt, mul-le-mul_left, mul_comm, mul_assoc, pow-suc, add-zero}
-use native.Mathlib.Numerals.{add-one}
-use native.Mathlib.Omega.{arith}
-use lib.Dec.{lit≤}
+use Rattle.std.proofs.Common.{◌≡◌, sym, ap, ◌∙◌, ℕ, zero, suc, ◌+◌, ◌*◌, ◌^◌, ◌≤◌, ◌<◌, List, [], ◌∷◌, length, take, drop, get_or, arith, add-one, pow-suc, mul_comm, mul_assoc, add-zero, lit<, drop-drop, get_or-drop, drop-set-lt}
+use Rattle.std.proofs.Math.ListN.{set}
+use Rattle.decimal.specs.Parts.{value_of, Proper}
 
--- a part r that was doubled with the carry k, under parts a that were doubled with its own carry c
-carried : (r c p k a b : ℕ) → r + 10 ^ 8 * c ≡ 2 * p + k → a ≡ 2 * b + c → r + 10 ^ 8 * a ≡ 2 * (p + 10 ^ 8 * b) + k
-carried r c p k a b e h = omega arith
+-- what one more in the part i is worth
+abbrev pub weight : ℕ → ℕ
+weight i = (10 ^ 8) ^ i
 
-pub doubled : (p0 p1 p2 p3 p4 r0 r1 r2 r3 r4 c0 c1 c2 c3 c4 : ℕ)
-    → r0 + 10 ^ 8 * c0 ≡ 2 * p0 + 0 → r1 + 10 ^ 8 * c1 ≡ 2 * p1 + c0 → r2 + 10 ^ 8 * c2 ≡ 2 * p2 + c1 → r3 + 10 ^ 8 * c3 ≡ 2 * p3 + c2
-    → r4 + 10 ^ 8 * c4 ≡ 2 * p4 + c3 → p4 < 10 ^ 7 → c3 ≤ 1
-    → r0 + 10 ^ 8 * (r1 + 10 ^ 8 * (r2 + 10 ^ 8 * (r3 + 10 ^ 8 * r4))) ≡ 2 * (p0 + 10 ^ 8 * (p1 + 10 ^ 8 * (p2 + 10 ^ 8 * (p3 + 10 ^ 8 * p4))))
-doubled p0 p1 p2 p3 p4 r0 r1 r2 r3 r4 c0 c1 c2 c3 c4 e0 e1 e2 e3 e4 h g =
-    carried r0 c0 p0 0 _ _ e0 (carried r1 c1 p1 c0 _ _ e1 (carried r2 c2 p2 c1 _ _ e2 (carried r3 c3 p3 c2 r4 p4 e3 (last r4 p4 c3 c4 e4 h g))))
-    ∙ add-zero (2 * (p0 + 10 ^ 8 * (p1 + 10 ^ 8 * (p2 + 10 ^ 8 * (p3 + 10 ^ 8 * p4)))))
+weight_suc : (i : ℕ) → weight (suc i) ≡ 10 ^ 8 * weight i
+weight_suc i = pow-suc (10 ^ 8) i ∙ mul_comm (weight i) (10 ^ 8)
+
+-- another part in the place of the part i
+value-set : (d : List ℕ) (i r : ℕ) → i < length d → value_of (set d i r) + weight i * get_or d i 0 ≡ value_of d + weight i * r
+value-set [] i r h = absurd (no i h)
   where
-    last : (r p k c : ℕ) → r + 10 ^ 8 * c ≡ 2 * p + k → p < 10 ^ 7 → k ≤ 1 → r ≡ 2 * p + k
-    last r p k c e h g = omega arith
+    no : (i : ℕ) → i < 0 → ⊥
+    no i h = omega arith
+value-set (p ∷ d) zero r h = omega arith
+value-set (p ∷ d) (suc i) r h =
+    let e = value-set d i r (omega arith) in
+    rw weight_suc (omega (arith, e))
+
+-- one more part of the lowest
+value-take : (a : List ℕ) (i : ℕ) → i < length a → value_of (take (suc i) a) ≡ value_of (take i a) + weight i * get_or a i 0
+value-take [] i h = absurd (no i h)
+  where
+    no : (i : ℕ) → i < 0 → ⊥
+    no i h = omega arith
+value-take (p ∷ a) zero h = omega arith
+value-take (p ∷ a) (suc i) h =
+    let e = value-take a i (omega arith) in
+    rw weight_suc (omega (arith, e))
+
+-- the parts below i are doubled, and k goes over into the part i
+pub record Doubled (a d : List ℕ) (i k : ℕ) : Type 0 where
+  pub value : value_of d + weight i * k ≡ value_of a + value_of (take i a)
+  pub rest : drop i d ≡ drop i a
+  pub proper : Proper d
+  pub small : k ≤ 1
+
+proper-set : (d : List ℕ) (i r j : ℕ) → Proper d → r < 10 ^ 8 → get_or (set d i r) j 0 < 10 ^ 8
+proper-set [] i r j p h = lit< tt
+proper-set (x ∷ d) zero r zero p h = h
+proper-set (x ∷ d) zero r (suc j) p h = p.below (suc j)
+proper-set (x ∷ d) (suc i) r zero p h = p.below 0
+proper-set (x ∷ d) (suc i) r (suc j) p h = proper-set d i r j (record { below = λ n. p.below (suc n) }) h
+
+-- w is the weight of the part p, which becomes r
+sums : (w p r c k a t d n o : ℕ) → n + w * p ≡ d + w * r → o ≡ t + w * p → d + w * k ≡ a + t → r + 10 ^ 8 * c ≡ 2 * p + k → n + 10 ^ 8 * w * c ≡ a + o
+sums w p r c k a t d n o f g h e =
+    let left : w * (r + 10 ^ 8 * c) ≡ w * r + 10 ^ 8 * w * c = left_is w r c in
+    let right : w * (2 * p + k) ≡ w * p + w * p + w * k = right_is w p k in
+    let times : w * (r + 10 ^ 8 * c) ≡ w * (2 * p + k) = ap (λ (x : ℕ). w * x) e in
+    omega (arith, f, g, h, left, right, times)
+  where
+    left_is : (w r c : ℕ) → w * (r + 10 ^ 8 * c) ≡ w * r + 10 ^ 8 * w * c
+    left_is w r c = omega arith
+
+    right_is : (w p k : ℕ) → w * (2 * p + k) ≡ w * p + w * p + w * k
+    right_is w p k = omega arith
+
+-- one more part doubled
+pub one_more : {a d : List ℕ} {i k r c : ℕ} → i < length d → length d ≡ length a → Doubled a d i k → r + 10 ^ 8 * c ≡ 2 * get_or d i 0 + k → r < 10 ^ 8 → c ≤ 1
+    → Doubled a (set d i r) (i + 1) c
+one_more {a} {d} {i} {k} {r} {c} h l s e f g =
+    let front : (l : List ℕ) → get_or (drop i l) 0 0 ≡ get_or l i 0 = λ l. get_or-drop i l 0 0 ∙ ap (λ n. get_or l n 0) (add-zero i) in
+    let same : get_or d i 0 ≡ get_or a i 0 = sym (front d) ∙ ap (λ (l : List ℕ). get_or l 0 0) s.rest ∙ front a in
+    let set_value = value-set d i r h in
+    let take_value = value-take a i (omega arith) in
+    record {
+      value = rw (add-one i, weight_suc) (sums (weight i) _ r c k _ _ _ _ _ set_value (rw (← same) at take_value) s.value e);
+      rest = drop-set-lt (i + 1) d i r (omega arith) ∙ sym (drop-drop 1 i d) ∙ ap (drop 1) s.rest ∙ drop-drop 1 i a;
+      proper = record { below = λ j. proper-set d i r j s.proper f };
+      small = g;
+    }
 
 pub next : (v m i : ℕ) → v ≡ m * 2 ^ i → 2 * v ≡ m * 2 ^ (i + 1)
 next v m i e = ap (λ (x : ℕ). 2 * x) e ∙ mul_comm 2 (m * 2 ^ i) ∙ mul_assoc m (2 ^ i) 2 ∙ ap (λ (x : ℕ). m * x) (sym (ap (λ (j : ℕ). 2 ^ j) (add-one i) ∙ pow-suc 2 i))
 
--- below 2 ^ 128 the highest part has seven digits at most
-pub top : (p0 p1 p2 p3 p4 : ℕ) → p0 + 10 ^ 8 * (p1 + 10 ^ 8 * (p2 + 10 ^ 8 * (p3 + 10 ^ 8 * p4))) < 2 ^ 128 → p4 < 10 ^ 7
-top p0 p1 p2 p3 p4 h =
-    lt_of_not-le (λ (g : 10 ^ 7 ≤ p4). not-le_of_lt h (le_trans (lit≤ {m = 2 ^ 128} {n = 10 ^ 32 * 10 ^ 7} tt) (le_trans (mul-le-mul_left (10 ^ 32) g) (above p0 p1 p2 p3 p4))))
+-- ---- the digits from the highest part on
+
+-- the part n below those above it
+pub value-drop : (parts : List ℕ) (n : ℕ) → n < length parts → value_of (drop n parts) ≡ value_of (drop (suc n) parts) * 10 ^ 8 + get_or parts n 0
+value-drop [] n h = absurd (no n h)
   where
-    above : (p0 p1 p2 p3 p4 : ℕ) → 10 ^ 32 * p4 ≤ p0 + 10 ^ 8 * (p1 + 10 ^ 8 * (p2 + 10 ^ 8 * (p3 + 10 ^ 8 * p4)))
-    above p0 p1 p2 p3 p4 = omega arith
-
--- ---- the digits of the parts from the highest on
-
-pub first : (p a : ℕ) → p < a → 0 * 10 ^ 8 + p < a
-first p a h = omega arith
-
-pub grow : (v p a : ℕ) → v < a → p < 10 ^ 8 → v * 10 ^ 8 + p < a * 10 ^ 8
-grow v p a h g = omega arith
-
-pub horner : (p0 p1 p2 p3 p4 : ℕ) → p0 + 10 ^ 8 * (p1 + 10 ^ 8 * (p2 + 10 ^ 8 * (p3 + 10 ^ 8 * p4))) ≡ (((((0 * 10 ^ 8 + p4) * 10 ^ 8 + p3) * 10 ^ 8 + p2) * 10 ^ 8 + p1) * 10 ^ 8) + p0
-horner p0 p1 p2 p3 p4 = omega arith
-
--- n digits are written from `at` on, k at most, and there is room for eight more
-pub room : (i at n k len : ℕ) → i ≡ at + n → n ≤ k → k + 8 ≤ 39 → at + 39 ≤ len → i + 8 ≤ len
-room i at n k len e h g f = omega arith
+    no : (n : ℕ) → n < 0 → ⊥
+    no n h = omega arith
+value-drop (p ∷ parts) zero h = omega arith
+value-drop (p ∷ parts) (suc n) h = value-drop parts n (omega arith)

@@ -1,18 +1,16 @@
--- A whole number below 10 ^ 40 in five parts of eight digits, and the digits that a part adds to those of the parts above it.
+-- A whole number in parts of eight digits, and the digits that a part adds to those of the parts above it.
 -- Assumes nothing.
-use Rattle.std.specs.Prelude.{ℕ, ◌+◌, ◌*◌, ◌^◌, ◌<◌, List, [], Bool, cond, eqb}
-use Rattle.decimal.specs.declared.Parts.{Parts}
+use Rattle.std.specs.Prelude.{ℕ, ◌+◌, ◌*◌, ◌^◌, ◌<◌, List, [], ◌∷◌, Bool, cond, eqb, get_or}
 use Rattle.digits.specs.Digits.{digits, last_digits}
 
-abbrev pub value_of : Parts → ℕ
-value_of b = b.p0 + 10 ^ 8 * (b.p1 + 10 ^ 8 * (b.p2 + 10 ^ 8 * (b.p3 + 10 ^ 8 * b.p4)))
+-- the lowest part first
+abbrev pub value_of : List ℕ → ℕ
+value_of [] = 0
+value_of (p ∷ ps) = p + 10 ^ 8 * value_of ps
 
-pub record Proper (b : Parts) : Type 0 where
-  pub part4 : b.p4 < 10 ^ 8
-  pub part3 : b.p3 < 10 ^ 8
-  pub part2 : b.p2 < 10 ^ 8
-  pub part1 : b.p1 < 10 ^ 8
-  pub part0 : b.p0 < 10 ^ 8
+-- each part has eight digits
+pub record Proper (parts : List ℕ) : Type 0 where
+  pub below : (k : ℕ) → get_or parts k 0 < 10 ^ 8
 
 -- the digits of n, of which 0 has none
 unfoldable pub shown : ℕ → List ℕ

@@ -1,9 +1,9 @@
 -- How the digits of a number in parts grow by its next part.
 -- Assumes nothing.
 use Rattle.std.specs.Prelude.{◌≡◌, refl, Bool, true, false, cond, List, [], ◌++◌, ℕ, zero, suc, ◌+◌, ◌*◌, ◌^◌, ◌≤◌, ◌<◌, ltb, length}
-use Rattle.std.proofs.Common.{sym, ap, ap₂, ◌∙◌, subst, zero-lt-suc, arith, lt-ltb, le-ltb, eq-eqb, ne_eqb}
+use Rattle.std.proofs.Common.{sym, ap, ap₂, ◌∙◌, subst, le_of_eq, zero-lt-suc, arith, lt-ltb, le-ltb, eq-eqb, ne_eqb}
 use Rattle.digits.specs.Digits.{digits, last_digits}
-use Rattle.digits.specs.DigitsLaws.{digits_append, some-digit, length_digits}
+use Rattle.digits.specs.DigitsLaws.{digits_append, some-digit, length_digits, length_last}
 use Rattle.buffer.specs.Puts.{PutsText}
 use Rattle.buffer.specs.PutsLaws.{then}
 use Rattle.decimal.specs.Parts.{shown, part}
@@ -33,6 +33,10 @@ length-shown k zero h = subst (λ (l : List ℕ). length l ≤ suc k) (sym (show
     none : (k : ℕ) → 0 ≤ suc k
     none k = omega arith
 length-shown k (suc v) h = subst (λ (l : List ℕ). length l ≤ suc k) (sym (shown_some (suc v) (zero-lt-suc v))) (length_digits k (suc v) h)
+
+pub length-part : (t : Bool) (n : ℕ) → n < 10 ^ 8 → length (part t n) ≤ 8
+length-part true n h = subst (λ (l : List ℕ). length l ≤ 8) (sym (part_next n refl)) (le_of_eq (length_last 8 n))
+length-part false n h = subst (λ (l : List ℕ). length l ≤ 8) (sym (part_first n refl)) (length-shown 7 n h)
 
 -- the digits of v * 10 ^ 8 + p: those of v, and then those that the part p adds
 grows : (v p start i : ℕ) → p < 10 ^ 8 → i ≡ start + length (shown v) → shown (v * 10 ^ 8 + p) ≡ shown v ++ part (ltb start i) p

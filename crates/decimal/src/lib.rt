@@ -19,15 +19,8 @@ use digits::put_eight;
 use digits::put_up_to_eight;
 use floats::rounding::nearest_shifted;
 
-// A whole number below 10^40 by five parts of eight decimal digits, p4 the highest.
-#[derive(Clone, Copy)]
-struct Parts {
-    p4: u64,
-    p3: u64,
-    p2: u64,
-    p1: u64,
-    p0: u64,
-}
+// A whole number below 10^40 by five parts of eight decimal digits, the lowest first.
+type Parts = [u64; 5];
 
 // A number of seven decimals: its whole part, and the decimals.
 #[derive(Clone, Copy)]
@@ -113,21 +106,15 @@ fn twice(part: u64, carry: u64) -> Carried
     }
 }
 
-fn double(b: Parts) -> Parts
-    requires { Proper b × (b.p4 < 10 ^ 7) }
-    ensures { (value_of result ≡ 2 * value_of b) × Proper result }
+fn double(parts: &mut Parts)
+    requires { Proper parts.old × (2 * value_of parts.old < 10 ^ 40) }
+    ensures { (value_of parts.new ≡ 2 * value_of parts.old) × Proper parts.new }
 {
-    let c0 = twice(b.p0, 0);
-    let c1 = twice(b.p1, c0.carry);
-    let c2 = twice(b.p2, c1.carry);
-    let c3 = twice(b.p3, c2.carry);
-    let c4 = twice(b.p4, c3.carry);
-    Parts {
-        p4: c4.part,
-        p3: c3.part,
-        p2: c2.part,
-        p1: c1.part,
-        p0: c0.part,
+    let mut carry = 0;
+    for i in 0..5 {
+        let next = twice(parts[i], carry);
+        parts[i] = next.part;
+        carry = next.carry;
     }
 }
 
@@ -136,17 +123,11 @@ fn shifted(m: u64, k: u64) -> Parts
     requires { (m < 2 ^ 24) × (k ≤ 104) }
     ensures { (value_of result ≡ m * 2 ^ k) × Proper result }
 {
-    let mut b = Parts {
-        p4: 0,
-        p3: 0,
-        p2: 0,
-        p1: 0,
-        p0: m,
-    };
+    let mut parts = [m, 0, 0, 0, 0];
     for _turn in 0..k {
-        b = double(b);
+        double(&mut parts);
     }
-    b
+    parts
 }
 
 // A part of a number whose digits begin at `start`. As long as none is written, leading zeros are left out.
@@ -163,16 +144,16 @@ fn put_part(out: &mut [u8], start: usize, at: usize, n: u64) -> usize
     put_up_to_eight(out, at, n)
 }
 
-// The digits of a number above zero.
-fn put_parts(out: &mut [u8], at: usize, b: Parts) -> usize
-    requires { (Proper b × (0 < value_of b)) × ((b.p4 < 10 ^ 7) × (at + 39 ≤ length out.old)) }
-    ensures { PutsText out.old at (digits (value_of b)) result out.new }
+// The digits of a number above zero, from the highest part on.
+fn put_parts(out: &mut [u8], at: usize, parts: Parts) -> usize
+    requires { (Proper parts × (0 < value_of parts)) × (at + 40 ≤ length out.old) }
+    ensures { PutsText out.old at (digits (value_of parts)) result out.new }
 {
-    let i4 = put_part(&mut *out, at, at, b.p4);
-    let i3 = put_part(&mut *out, at, i4, b.p3);
-    let i2 = put_part(&mut *out, at, i3, b.p2);
-    let i1 = put_part(&mut *out, at, i2, b.p1);
-    put_part(&mut *out, at, i1, b.p0)
+    let mut next = at;
+    for i in 0..5 {
+        next = put_part(&mut *out, at, next, parts[4 - i]);
+    }
+    next
 }
 
 // m * 2^k to seven decimals, for a whole number from 2^23 on.
@@ -215,6 +196,7 @@ pub fn put_seven_decimals(out: &mut [u8], at: usize, x: f32) -> usize
     requires { at + 48 ≤ length out.old }
     ensures { PutsText out.old at (seven_decimals x) result out.new }
 {
+    // No method such as `is_nan`: the program `divisions` reads no calls of methods.
     if x != x {
         return put_bytes(out, at, b"NaN");
     }

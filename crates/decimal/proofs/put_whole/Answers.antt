@@ -12,7 +12,6 @@ use Rattle.digits.specs.DigitsLaws.{length_digits}
 use Rattle.decimal.specs.Parts.{value_of}
 use Rattle.decimal.specs.Seven.{with_point}
 use Rattle.buffer.specs.PutsLaws.{then}
-use Rattle.decimal.proofs.Doubling.{top}
 use Rattle.decimal.proofs.Point.{with_point_is}
 use Rattle.decimal.proofs.put_whole.Goals.{After-shifted}
 use Rattle.decimal.proofs.put_whole.Goals as goal
@@ -27,10 +26,8 @@ room i at n len e h g = omega arith
 
 pub put_parts-i-requires : goal.put_parts-i-requires
 put_parts-i-requires c =
-    let b = c.shifted.result in (
-      (c.shifted.ensures.1, subst (λ (v : ℕ). 0 < v) (sym c.shifted.ensures.0) (mul-pos c.requires.0.0 (pow_pos c.args.k))),
-      (top b.p0 b.p1 b.p2 b.p3 b.p4 (value-lt (goal.at.put_parts-i-requires c).After-shifted), omega (arith, c.requires.1.1)),
-    )
+    let s = c.shifted.ensures in
+    ((s.1, subst (λ (v : ℕ). 0 < v) (sym s.0) (mul-pos c.requires.0.0 (pow_pos c.args.k))), omega (arith, c.requires.1.1))
 
 pub put_decimals-requires : goal.put_decimals-requires
 put_decimals-requires c = (
