@@ -122,15 +122,16 @@ pub fn create_icc_mluc_tag(out: &mut [u8], at: usize, text: &[u8]) -> usize
     buffer::put_zeros(out, at, padding(mluc_size(text.len())))
 }
 
-// A type signature with its four reserved bytes, and numbers.
+// A type signature with its four reserved bytes, and numbers: no padding follows.
 fn put_numbers(out: &mut [u8], at: usize, start: &[u8; 8], values: &[i32]) -> usize
     requires { at + (8 + 4 * length values.now) ≤ length out.old }
-    ensures { Puts out.old at (8 + 4 * length values.now) (TagTypes.join (start.now ∷ TagTypes.s15_fixed_16s values.now ∷ [])) result out.new }
+    ensures { Puts out.old at (8 + 4 * length values.now) (Elements.padded (TagTypes.join (start.now ∷ TagTypes.s15_fixed_16s values.now ∷ []))) result out.new }
 {
     let at = buffer::put_bytes(out, at, start);
     put_each(out, at, values)
 }
 
+#[tactic(auto, unfolding(profile::specs::TagTypes::xyz, profile::specs::TagTypes::join))]
 pub fn create_icc_xyz_tag(out: &mut [u8], at: usize, values: &[i32]) -> usize
     requires { at + (8 + 4 * length values.now) ≤ length out.old }
     ensures { Puts out.old at (8 + 4 * length values.now) (Elements.padded (TagTypes.xyz values.now)) result out.new }
@@ -138,6 +139,7 @@ pub fn create_icc_xyz_tag(out: &mut [u8], at: usize, values: &[i32]) -> usize
     put_numbers(out, at, b"XYZ \0\0\0\0", values)
 }
 
+#[tactic(auto, unfolding(profile::specs::TagTypes::sf32, profile::specs::TagTypes::join))]
 pub fn create_icc_chad_tag(out: &mut [u8], at: usize, values: &[i32]) -> usize
     requires { at + (8 + 4 * length values.now) ≤ length out.old }
     ensures { Puts out.old at (8 + 4 * length values.now) (Elements.padded (TagTypes.sf32 values.now)) result out.new }

@@ -55,6 +55,7 @@ fn put_class_and_space(out: &mut [u8], at: usize, kind: Kind) -> usize
 // 2019-12-01 00:00:00 in big-endian numbers of two bytes, file signature, platform.
 const DATE_AND_PLATFORM: [u8; 20] = *b"\x07\xe3\0\x0c\0\x01\0\0\0\0\0\0acspAPPL";
 
+#[tactic(auto, unfolding(profile::specs::TagTypes::join, words::specs::Words::be16))]
 fn put_date_and_platform(out: &mut [u8], at: usize) -> usize
     requires { at + 20 ≤ length out.old }
     ensures { Puts out.old at 20 (join (be16 2019 ∷ be16 12 ∷ be16 1 ∷ zeros 6 ∷ Sig.acsp ∷ Sig.APPL ∷ [])) result out.new }

