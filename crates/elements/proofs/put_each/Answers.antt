@@ -12,7 +12,8 @@ put-next-requires g c = omega (arith, room g.T.Put.width c.loop-value-test.true,
 
 pub loop-value-preserved : goal.loop-value-preserved
 loop-value-preserved g c =
-    one_more g.met.T.Put.one_by_one c.value-item.result c.args.values.now (omega arith) c.loop-value-test.true c.loop-value.invariant (rw (← c.value-item.is) c.put-next.ensures)
+    one_more g.met.T.Put.one_by_one c.value-item.result c.args.values.now (omega arith) c.loop-value-test.true c.loop-value.invariant
+    (rw (← c.value-item.is) c.put-next.ensures)
 
 pub returns : goal.returns
 returns g c = ended g.met.T.Put.one_by_one c.args.values.now (omega arith) c.loop-value.invariant

@@ -25,7 +25,8 @@ loop-tag-preserved c =
     let here : c.loop-tag.tag-index < length es = rw length-walk c.loop-tag-test.true in
     let w = c.loop-tag.invariant.0 in (
       rw c.placed-place.ensures (walked_next w _ c.loop-tag-test.true),
-      one_more lines (entry 0 0 []) es (omega (arith, c.put_u32_be-at.ensures.place, c.requires.1)) here c.loop-tag.invariant.1 (rw (c.placed-place.ensures, walked_entry w _ c.loop-tag-test.true) at c.put_tag-at.ensures),
+      one_more lines (entry 0 0 []) es (omega (arith, c.put_u32_be-at.ensures.place, c.requires.1)) here c.loop-tag.invariant.1
+          (rw (c.placed-place.ensures, walked_entry w _ c.loop-tag-test.true) at c.put_tag-at.ensures),
     )
 
 pub returns : goal.returns

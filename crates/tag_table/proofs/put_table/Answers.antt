@@ -5,19 +5,29 @@ use Rattle.tag_table.specs.PlacesLaws.{fits, room, puts_table, gray_told, rgb_to
 use Rattle.tag_table.proofs.put_table.Goals as goal
 
 pub put_lines-requires : goal.put_lines-requires
-put_lines-requires c = (fits c.args.shape (c.adapted_gray_tags.ensures ∙ gray_told c.args.shape true c.in-Gray.is c.if-shape.true) c.requires.0, room c.args.shape (c.adapted_gray_tags.ensures ∙ gray_told c.args.shape true c.in-Gray.is c.if-shape.true) c.requires.1)
+put_lines-requires c =
+    let e = c.adapted_gray_tags.ensures ∙ gray_told c.args.shape true c.in-Gray.is c.if-shape.true in
+    (fits c.args.shape e c.requires.0, room c.args.shape e c.requires.1)
 
 pub put_lines-requires-in-Gray-2 : goal.put_lines-requires-in-Gray-2
-put_lines-requires-in-Gray-2 c = (fits c.args.shape (c.gray_tags.ensures ∙ gray_told c.args.shape false c.in-Gray-2.is c.if-shape.false) c.requires.0, room c.args.shape (c.gray_tags.ensures ∙ gray_told c.args.shape false c.in-Gray-2.is c.if-shape.false) c.requires.1)
+put_lines-requires-in-Gray-2 c =
+    let e = c.gray_tags.ensures ∙ gray_told c.args.shape false c.in-Gray-2.is c.if-shape.false in
+    (fits c.args.shape e c.requires.0, room c.args.shape e c.requires.1)
 
 pub put_lines-requires-in-Rgb : goal.put_lines-requires-in-Rgb
-put_lines-requires-in-Rgb c = (fits c.args.shape (c.cicp_rgb_tags.ensures ∙ rgb_told c.args.shape true c.in-Rgb.is c.if-shape-2.true) c.requires.0, room c.args.shape (c.cicp_rgb_tags.ensures ∙ rgb_told c.args.shape true c.in-Rgb.is c.if-shape-2.true) c.requires.1)
+put_lines-requires-in-Rgb c =
+    let e = c.cicp_rgb_tags.ensures ∙ rgb_told c.args.shape true c.in-Rgb.is c.if-shape-2.true in
+    (fits c.args.shape e c.requires.0, room c.args.shape e c.requires.1)
 
 pub put_lines-requires-in-Rgb-2 : goal.put_lines-requires-in-Rgb-2
-put_lines-requires-in-Rgb-2 c = (fits c.args.shape (c.rgb_tags.ensures ∙ rgb_told c.args.shape false c.in-Rgb-2.is c.if-shape-2.false) c.requires.0, room c.args.shape (c.rgb_tags.ensures ∙ rgb_told c.args.shape false c.in-Rgb-2.is c.if-shape-2.false) c.requires.1)
+put_lines-requires-in-Rgb-2 c =
+    let e = c.rgb_tags.ensures ∙ rgb_told c.args.shape false c.in-Rgb-2.is c.if-shape-2.false in
+    (fits c.args.shape e c.requires.0, room c.args.shape e c.requires.1)
 
 pub put_lines-requires-in-Xyb : goal.put_lines-requires-in-Xyb
-put_lines-requires-in-Xyb c = (fits c.args.shape (c.xyb_tags.ensures ∙ xyb_told c.args.shape c.in-Xyb.is) c.requires.0, room c.args.shape (c.xyb_tags.ensures ∙ xyb_told c.args.shape c.in-Xyb.is) c.requires.1)
+put_lines-requires-in-Xyb c =
+    let e = c.xyb_tags.ensures ∙ xyb_told c.args.shape c.in-Xyb.is in
+    (fits c.args.shape e c.requires.0, room c.args.shape e c.requires.1)
 
 pub returns-in-Gray : goal.returns-in-Gray
 returns-in-Gray c = puts_table c.args.shape (c.adapted_gray_tags.ensures ∙ gray_told c.args.shape true c.in-Gray.is c.if-shape.true) c.put_lines.ensures
