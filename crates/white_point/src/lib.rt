@@ -18,7 +18,7 @@ use refusals::Refusal;
 pub fn in_range(white: WhiteXy) -> bool
     ensures { result ≡ in_range white }
 {
-    (0.0..=1.0).contains(&white.wx) && (white.wy > 0.0 && white.wy <= 1.0)
+    (0.0..=1.0).contains(&white.wx) && white.wy > 0.0 && white.wy <= 1.0
 }
 
 // z = 1 - x - y of an RGB white, in f64.
