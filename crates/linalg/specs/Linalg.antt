@@ -14,18 +14,15 @@ three f = f 0 ∷ f 1 ∷ f 2 ∷ []
 abbrev pub matrix : (ℕ → ℕ → Float) → List (List Float)
 matrix f = three (λ i. three (f i))
 
--- the row i, and the entry at row i and column j, of a matrix of any entries; d is for places outside
-abbrev pub row_of : {A : Type 0} → List (List A) → ℕ → List A
-row_of m i = get_or m i []
+-- of entries of any type; d stands for the entries outside
+abbrev pub row : {A : Type 0} → List (List A) → ℕ → List A
+row m i = get_or m i []
 
 abbrev pub entry_or : {A : Type 0} → A → List (List A) → ℕ → ℕ → A
-entry_or d m i j = get_or (row_of m i) j d
+entry_or d m i j = get_or (row m i) j d
 
 abbrev pub component : List Float → ℕ → Float
 component v i = get_or v i nan
-
-abbrev pub row : List (List Float) → ℕ → List Float
-row m i = get_or m i []
 
 abbrev pub entry : List (List Float) → ℕ → ℕ → Float
 entry m i j = component (row m i) j

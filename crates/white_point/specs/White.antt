@@ -1,11 +1,11 @@
 -- The XYZ of an RGB white point with Y = 1, in f64, as `adapt_to_xyz_d50` and `primaries_to_xyz` of api/color.rs begin. (The range of its
 -- coordinates is in color_encoding, Range.) Assumes nothing.
 use Rattle.std.specs.Prelude.{Bool, ◌&&◌, List, [], ◌∷◌, Float}
--- Rust's `is_finite`
-unfoldable pub use Rattle.std.specs.Float.{float_is_finite as finite}
 use Rattle.floats.specs.Binary64.{◌⊖◌, ◌⊘◌, one}
 use Rattle.linalg.specs.Linalg.{component}
 use Rattle.color_encoding.specs.declared.WhiteXy.{WhiteXy}
+-- Rust's `is_finite`
+unfoldable pub use Rattle.std.specs.Float.{float_is_finite as finite}
 
 -- z = 1 - x - y. A coordinate is an f32, whose value is that of the f64 that it is widened to
 abbrev pub white_z_of : WhiteXy → Float
