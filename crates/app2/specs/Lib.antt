@@ -5,5 +5,4 @@ pub mod Permutation
 pub mod Properties
 pub mod CutLaws
 pub mod ParseLaws
-pub mod TakeLaws
 pub mod SegmentExamples

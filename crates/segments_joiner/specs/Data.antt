@@ -1,7 +1,7 @@
 -- The data of the segments that a buffer is. Assumes nothing.
 use Rattle.std.specs.Prelude.{ℕ, ◌<◌, ◌≡◌, List, [], length, take}
 use Rattle.buffer.specs.Buffer.{put}
-use Rattle.buffer.specs.Checked.{is, value_or, then}
+use Rattle.buffer.specs.Checked.{is, refused, value_or, then}
 use Rattle.profile.specs.Shape.{max_length}
 use Rattle.reader_spec.specs.Read.{read}
 use Rattle.reading.specs.Reading.{reading}
@@ -17,6 +17,6 @@ pub record Gathers (l before after : List ℕ) (n : ℕ) : Type 0 where
   pub all : n ≡ length l
   pub front : after ≡ put before 0 (take (length before) l)
 
--- r is the reader's number of any n bytes, more than any file has, that begin with these
+-- r is the number by which the reader refuses any n bytes, more than any file has, that begin with these
 pub record RefusesLong (front : List ℕ) (n r : ℕ) : Type 0 where
-  pub number_is : (l : List ℕ) → max_length < length l → n ≡ length l → front ≡ take max_length l → r ≡ (reading (read l)).refusal
+  pub refuses : (l : List ℕ) → max_length < length l → n ≡ length l → front ≡ take max_length l → reading (read l) ≡ refused r

@@ -1,9 +1,10 @@
 -- The loop over the sequence numbers: the data that it has passed and what is left. Assumes nothing.
-use Prim.Native.Nat.{ℕ, suc, ◌+◌, ◌-◌, ◌*◌, ◌≤◌, ◌<◌, min}
+use Prim.Native.Nat.{ℕ, zero, suc, ◌+◌, ◌-◌, ◌*◌, ◌≤◌, ◌<◌, min}
 use Rattle.std.specs.Prelude.{◌≡◌, refl, take, drop, get_or}
 use Rattle.std.proofs.Math.Path.{ap, ap₂}
 use Rattle.std.proofs.Common.{sym, ◌∙◌, add-one, length-append, length-take, length-drop, take_at, take_all, length-take-le}
-use mathlib.Core.List.{List, [], ◌++◌, append_assoc, append-nil}
+use Rattle.std.proofs.lemmas.List.{take_min}
+use mathlib.Core.List.{List, [], ◌∷◌, ◌++◌, append_assoc, append-nil}
 use native.Mathlib.Omega.{arith}
 use Rattle.std.proofs.Math.ListN.{length}
 use Rattle.std.proofs.Math.Seq.{take-nil}
@@ -17,9 +18,16 @@ use Rattle.profile.specs.TagTypes.{join}
 use Rattle.app2.specs.Segments.{Segment}
 use Rattle.app2.specs.App2.{complete_segments}
 use Rattle.app2.specs.Joining.{chunks_from, joined}
-use Rattle.app2.specs.TakeLaws.{take-append, take_min}
 use Rattle.segments_finder.specs.Found.{Found}
 use Rattle.segments_joiner.specs.Data.{data_of, Gathers}
+
+-- the first bytes of two lists in a row
+take-append : (n : ℕ) (a b : List ℕ) → take n (a ++ b) ≡ take n a ++ take (n - length a) b
+take-append zero a b = let e : 0 ≡ 0 - length a = omega arith in ap (λ (k : ℕ). take k b) e
+take-append (suc n) [] b = let e : suc n ≡ suc n - 0 = omega arith in ap (λ (k : ℕ). take k b) e
+take-append (suc n) (x ∷ a) b =
+    let e : n - length a ≡ suc n - suc (length a) = omega arith in
+    ap (λ (l : List ℕ). x ∷ l) (take-append n a b ∙ ap (λ (k : ℕ). take n a ++ take k b) e)
 
 -- the data of the segments that were found
 pub data_joined : (b : List ℕ) {ss : List Segment} → complete_segments b ≡ is ss → joined ss ≡ data_of b
@@ -48,7 +56,7 @@ module _ (b places : List ℕ) (n : ℕ) (w : Found b places n) where
   abbrev pub size : ℕ → ℕ
   size i = word16 (drop (place i) b) - 16
 
-  abbrev part : ℕ → List ℕ
+  abbrev pub part : ℕ → List ℕ
   part i = take (size i) (drop (place i + 16) b)
 
   at_next : (i : ℕ) → 1 ≤ i → i ≤ n → left i ≡ part i ++ left (i + 1)
@@ -96,20 +104,19 @@ module _ (b places : List ℕ) (n : ℕ) (w : Found b places n) where
       same_room = omega (arith, g.wrote.place, length-take (length out₀) g.passed)
 
       -- the data of the number i is passed, and as much of it is put as there is room for
-      pub onward : i ≤ n → word16 (drop (place i) b) < 65536 → (kept at' : ℕ) (out' : List ℕ) → kept ≡ min (size i) (length out₀ - at)
-          → PutsText out at (take kept (drop (place i + 16) b)) at' out' → Gathering out₀ (i + 1) (total + size i) at' out'
-      onward h small kept at' out' e p =
+      pub onward : i ≤ n → word16 (drop (place i) b) < 65536 → {d : List ℕ} → d ≡ part i → (at' : ℕ) (out' : List ℕ)
+          → PutsText out at (take (min (length out₀ - at) (length d)) d) at' out' → Gathering out₀ (i + 1) (total + length d) at' out'
+      onward h small {d} e at' out' p =
           record {
             from_one = omega arith;
             up_to = omega arith;
-            bound = omega (arith, g.bound);
-            passed = g.passed ++ part i;
-            all_is = append_assoc g.passed (part i) (left (i + 1)) ∙ ap (λ (l : List ℕ). g.passed ++ l) (sym (at_next i g.from_one h)) ∙ g.all_is;
-            total_is = omega (arith, g.total_is, length-append g.passed (part i), length_part i g.from_one h);
+            bound = omega (arith, g.bound, ap length e, length_part i g.from_one h);
+            passed = g.passed ++ d;
+            all_is = append_assoc g.passed d (left (i + 1)) ∙ ap (λ (l : List ℕ). g.passed ++ l) (ap (λ (l : List ℕ). l ++ left (i + 1)) e ∙ sym (at_next i g.from_one h)) ∙ g.all_is;
+            total_is = omega (arith, g.total_is, length-append g.passed d);
             wrote = PutsLaws.then _ (omega arith) g.wrote p
-                (take-append (length out₀) g.passed (part i)
-                ∙ ap (λ (l : List ℕ). take (length out₀) g.passed ++ l)
-                (ap (λ (k : ℕ). take k (part i)) same_room ∙ take_min (length out₀ - at) (size i) (drop (place i + 16) b) ∙ ap (λ (k : ℕ). take k (drop (place i + 16) b)) (sym e)));
+                (take-append (length out₀) g.passed d
+                ∙ ap (λ (l : List ℕ). take (length out₀) g.passed ++ l) (ap (λ (k : ℕ). take k d) same_room ∙ sym (take_min (length out₀ - at) d)));
           }
 
       pub gathers : n < i → Gathers (data_of b) out₀ out total

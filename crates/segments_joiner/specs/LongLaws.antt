@@ -8,6 +8,7 @@ use Rattle.std.proofs.Math.ListN.{length, take, length-take, length-drop}
 use Rattle.std.proofs.Math.Seq.{take-add}
 use Rattle.buffer.specs.Buffer.{put}
 use Rattle.buffer.specs.BufferLaws.{put_put, put_whole}
+use Rattle.buffer.specs.Checked.{refused}
 use Rattle.words.specs.Words.{be32, word32}
 use Rattle.words.specs.WordsLaws.{word32_be32, be32_front, length-be32}
 use Rattle.profile.specs.declared.Kind.{Kind}
@@ -162,8 +163,8 @@ module _ (front : List ℕ) (bs : Bytes front) (l : List ℕ) (more : max_length
 
   -- ---- as code has it
 
-  pub long_22 : (word32 front ≡ length l → ⊥) → 22 ≡ (reading (read l)).refusal
-  long_22 h = sym (ap (λ a. (reading a).refusal) (read_22 l (omega arith) (λ e. h (size-front ∙ e))))
+  pub long_22 : (word32 front ≡ length l → ⊥) → reading (read l) ≡ refused 22
+  long_22 h = ap reading (read_22 l (omega arith) (λ e. h (size-front ∙ e)))
 
   pub long_head : (z : List ℕ) → length z ≡ 132 → put (put z 0 (be32 132)) 4 (take 128 (drop 4 front)) ≡ head
   unfolding be32
@@ -173,5 +174,5 @@ module _ (front : List ℕ) (bs : Bytes front) (l : List ℕ) (more : max_length
       ∙ put_whole z (be32 132 ++ take 128 (drop 4 front)) (omega (arith, ap length part, length-take 128 (drop 4 l), length-drop 4 l))
       ∙ ap (λ (x : List ℕ). be32 132 ++ x) part
 
-  pub long_read : word32 front ≡ length l → (reading (read head)).refusal ≡ (reading (read l)).refusal
-  long_read h = ap (λ a. (reading a).refusal) (read_head (sym size-front ∙ h))
+  pub long_read : word32 front ≡ length l → read head ≡ read l
+  long_read h = read_head (sym size-front ∙ h)
