@@ -30,6 +30,7 @@ fn is_of(file: &[u8], class: [u8; 4], space: [u8; 4]) -> bool
 }
 
 // The kind that class and space tell. A pair that is not listed is held against RGB's header, and refused.
+#[tactic(auto, unfolding(reader_spec::specs::PlanIn::kind_from))]
 pub fn kind_of(file: &[u8]) -> Kind
     requires { header_size + count_size ≤ length file.now }
     ensures { result ≡ PlanIn.kind_from file.now }

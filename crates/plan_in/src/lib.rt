@@ -132,6 +132,7 @@ fn white_in(file: &[u8], adapted: bool) -> GrayWhite
 
 // ---- the plan
 
+#[tactic(auto, unfolding(reader_spec::specs::PlanIn::content_from))]
 fn content_in(file: &[u8], shape: Shape) -> Content
     ensures { result ≡ content_of (PlanIn.content_from shape.kind shape (PlanIn.element_in file.now)) }
 {

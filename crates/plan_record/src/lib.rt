@@ -37,6 +37,7 @@ fn bits(values: [i32; 9]) -> [u32; 9]
 }
 
 // The numbers before `chad`.
+#[tactic(auto, unfolding(crate::specs::PlanRecord::record_numbers))]
 fn first_numbers(plan: Reading) -> [u32; 11]
     ensures { result ≡ take 11 (record_numbers plan) }
 {

@@ -21,6 +21,7 @@ const LINE_OFFSET: usize = 4;
 
 const LINE_ELEMENT_SIZE: usize = 8;
 
+#[tactic(auto, unfolding(reader_spec::specs::Table::tags_of))]
 pub fn tag_count(file: &[u8]) -> u32
     ensures { result ≡ Table.tags_of file.now }
 {
