@@ -10,10 +10,9 @@ use Rattle.job.specs.Job.{job}
 use Rattle.job.specs.Bounds.{Bytes}
 use Rattle.job.specs.JobBounds.{job_bounds, job_refused}
 use Rattle.job.specs.declared.JobEntry.{JobEntry}
-use Rattle.job.specs.declared.JobAnswer.TheVariants as A
 use Rattle.job_output.specs.JobOutput.{output_of, listing, profiles}
 use Rattle.entry_output.specs.EntryOutputLaws.{profile_most, first_line_is}
-use Rattle.entry_output.specs.declared.Stream.TheVariants as S
+use Rattle.entry_output.specs.EntryOutput.{entry_line, profile_part}
 use Rattle.job_output.specs.MostLaws.{line_most, parts_most}
 
 pub listing_most : (l : List ℕ) → Bytes l → length (listing (job 1 l)) ≤ 12253
@@ -23,10 +22,10 @@ listing_most l bytes = go (job 1 l) refl
     go : (j : Checked (List JobEntry)) → job 1 l ≡ j → length (listing j) ≤ 12253
     go (is es) h =
         let within = job_bounds l bytes h in
-        rw (first_line_is (A.Entries (length es)))
-        (simp length-append (omega (arith, length_digits 2 (length es) (omega (arith, within.few)), parts_most S.Listing 16 line_most within.all, within.few)))
+        rw (first_line_is (is (length es)))
+        (simp length-append (omega (arith, length_digits 2 (length es) (omega (arith, within.few)), parts_most entry_line 16 line_most within.all, within.few)))
     go (refused k) h =
-        rw (first_line_is (A.Refused k))
+        rw (first_line_is (refused k))
         (simp length-append (omega (arith, length_digits 1 k (omega (arith, job_refused l bytes h)))))
 
 pub profiles_most : (l : List ℕ) → Bytes l → length (profiles (job 1 l)) ≤ 918000
@@ -36,5 +35,5 @@ profiles_most l bytes = go (job 1 l) refl
     go : (j : Checked (List JobEntry)) → job 1 l ≡ j → length (profiles j) ≤ 918000
     go (is es) h =
         let within = job_bounds l bytes h in
-        omega (arith, parts_most S.Profiles max_written (λ e f. profile_most e.encoding f.floats) within.all, within.few)
+        omega (arith, parts_most profile_part max_written (λ e f. profile_most e.encoding f.floats) within.all, within.few)
     go (refused k) h = omega arith

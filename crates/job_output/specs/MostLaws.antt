@@ -1,5 +1,5 @@
 -- Lemmas of Most.antt: the most bytes of a line, and of the parts of all entries. Assumes nothing.
-use Rattle.std.specs.Prelude.{ℕ, ◌*◌, ◌≤◌, false, ◌≡◌, refl, List, map, length}
+use Rattle.std.specs.Prelude.{ℕ, List, ◌*◌, ◌≤◌, false, ◌≡◌, refl, map, length}
 use Rattle.std.proofs.Common.{arith, length-append}
 use Rattle.buffer.specs.All.{All, none, more}
 use Rattle.buffer.specs.Checked.{Checked, is, refused}
@@ -16,9 +16,8 @@ use Rattle.writer_laws.proofs.WrittenLength.{written_length}
 use Rattle.writer_laws.proofs.RefusalNumbers.{refusal_number_lem}
 use Rattle.job.specs.Bounds.{EntryBounds}
 use Rattle.job.specs.declared.JobEntry.{JobEntry}
-use Rattle.entry_output.specs.EntryOutput.{enough, length_or_refusal, entry_line, part_of}
+use Rattle.entry_output.specs.EntryOutput.{enough, length_or_refusal, entry_line}
 use Rattle.entry_output.specs.EntryOutputLaws.{length-place, entry_line_is}
-use Rattle.entry_output.specs.declared.Stream.{Stream}
 
 answer_most : (e : JxlColorEncoding) → HeldEncoding e → length (length_or_refusal (enough (counted_plan e))) ≤ 9
 answer_most e h = go (plan_of e) refl
@@ -30,10 +29,10 @@ answer_most e h = go (plan_of e) refl
 pub line_most : (e : JobEntry) → EntryBounds e → length (entry_line e) ≤ 16
 line_most e f =
     rw (entry_line_is e, length-append, length-append)
-    (omega (arith, length-place e.section e.place f.section f.place, answer_most e.encoding f.floats))
+    (omega (arith, length-place e.section e.place f.place, answer_most e.encoding f.floats))
 
 -- the parts of entries within their bounds, each of at most k bytes
-pub parts_most : (s : Stream) (k : ℕ) → ((e : JobEntry) → EntryBounds e → length (part_of s e) ≤ k) → {es : List JobEntry} → All EntryBounds es → length (join (map (part_of s) es)) ≤ length es * k
+pub parts_most : (part : JobEntry → List ℕ) (k : ℕ) → ((e : JobEntry) → EntryBounds e → length (part e) ≤ k) → {es : List JobEntry} → All EntryBounds es → length (join (map part es)) ≤ length es * k
 unfolding join
-parts_most s k h none = omega arith
-parts_most s k h (more {a = e} {l = es} f fs) = rw (length-append (part_of s e) (join (map (part_of s) es))) (omega (arith, h e f, parts_most s k h fs))
+parts_most part k h none = omega arith
+parts_most part k h (more {a = e} {l = es} f fs) = rw (length-append (part e) (join (map part es))) (omega (arith, h e f, parts_most part k h fs))

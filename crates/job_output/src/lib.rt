@@ -3,20 +3,21 @@
 
 #![tactic(auto)]
 
-ghost use Rattle.std.specs.Prelude.{◌≡◌, ◌+◌, ◌*◌, ◌≤◌, length};
+ghost use Rattle.std.specs.Prelude.{◌≡◌, ◌+◌, ◌*◌, ◌<◌, ◌≤◌, length};
 ghost use Rattle.buffer.specs.Puts.{PutsText};
+ghost use Rattle.refusals.specs.Refusals.{checked};
 ghost use Rattle.profile.specs.TagTypes.{join};
 ghost use Rattle.entry_output.specs.Steps.{Measures};
 ghost use Rattle.writer.specs.Writer.{max_written};
 ghost use Rattle.job.specs.Job as Job;
 ghost use Rattle.job.specs.Job.{entry_answer};
 ghost use Rattle.job_output.specs.JobOutput as Out;
-ghost use Rattle.job_output.specs.JobOutput.{parts_of, output_of, from_writer, Lends, ProfileOf};
-ghost use Rattle.job_output.specs.Entries.{Entries};
+ghost use Rattle.job_output.specs.JobOutput.{parts_of, output_of, Lends, ProfileOf};
+ghost use Rattle.job_output.specs.Entries.{Entries, Stands};
 
-use entry_output::{Stream, head, part_length, put_line, put_part};
-use job::{EntryAnswer, JobAnswer};
-use writer::Profile;
+use entry_output::{Listing, Profiles, Stream, put_line};
+use job::JobEntry;
+use refusals::Refusal;
 
 // The most bytes of a listing: a first line of up to 13 (`profiles 765`), and a line of up to 16 for each entry (`2 255 refused 7`); and of the
 // profiles of a job together (specs/Most.antt).
@@ -24,83 +25,73 @@ pub const MOST_LISTING: usize = 13 + job::MOST_ENTRIES * 16;
 
 pub const MOST_PROFILES: usize = job::MOST_ENTRIES * writer::MAX_WRITTEN;
 
-// How many bytes were put to the front of a lent output; or 9, where it is too short for them.
-#[derive(Clone, Copy)]
-pub enum Output {
-    Written(usize),
-    Refused(u32),
-}
-
-// The length of an entry's profile; none, where the job has no such entry; or the refusal of the job or of the entry.
-#[derive(Clone, Copy)]
-pub enum JobProfile {
-    Written(u32),
-    Absent,
-    Refused(u32),
-}
-
 // ---- all entries
 
-fn parts_length(stream: Stream, job: &[u8], n: usize) -> usize
+// The i-th of the n entries of a job that is not refused.
+fn entry_of(job: &[u8], n: usize, i: usize) -> JobEntry
+    requires { Entries job.now n × (i < n) }
+    ensures { Stands job.now i result }
+{
+    match job::entry_alone(job, i) {
+        Ok(Some(entry)) => entry,
+        Ok(None) => unreachable!(),
+        Err(_) => unreachable!(),
+    }
+}
+
+fn parts_length<S: Stream>(job: &[u8], n: usize) -> usize
     requires { Entries job.now n }
-    ensures { Measures (join (parts_of stream (Job.job 1 job.now))) (n * max_written) result }
+    ensures { Measures (join (parts_of S.part_text (Job.job 1 job.now))) (n * max_written) result }
 {
     let mut total = 0usize;
-    let mut i = 0usize;
-    while i < n {
-        if let EntryAnswer::Is(entry) = job::entry_alone(job, i) {
-            total += part_length(stream, entry);
-        }
-        i += 1;
+    for i in 0..n {
+        total += S::part_length(entry_of(job, n, i));
     }
     total
 }
 
-fn put_parts(stream: Stream, job: &[u8], n: usize, out: &mut [u8], start: usize) -> usize
-    requires { Entries job.now n × (start + length (join (parts_of stream (Job.job 1 job.now))) ≤ length out.old) }
-    ensures { PutsText out.old start (join (parts_of stream (Job.job 1 job.now))) result out.new }
+fn put_parts<S: Stream>(job: &[u8], n: usize, out: &mut [u8], start: usize) -> usize
+    requires { Entries job.now n × (start + length (join (parts_of S.part_text (Job.job 1 job.now))) ≤ length out.old) }
+    ensures { PutsText out.old start (join (parts_of S.part_text (Job.job 1 job.now))) result out.new }
 {
     let mut at = start;
-    let mut i = 0usize;
-    while i < n {
-        if let EntryAnswer::Is(next) = job::entry_alone(job, i) {
-            at = put_part(stream, &mut *out, at, next);
-        }
-        i += 1;
+    for i in 0..n {
+        at = S::put_part(&mut *out, at, entry_of(job, n, i));
     }
     at
 }
 
-fn output_length(stream: Stream, job: &[u8]) -> usize
-    ensures { result ≡ length (output_of stream (Job.job 1 job.now)) }
+fn output_length<S: Stream>(job: &[u8]) -> usize
+    ensures { result ≡ length (output_of S.head_text S.part_text (Job.job 1 job.now)) }
 {
     let answer = job::entries(job);
-    let line = head(stream, answer);
+    let line = S::head(answer);
     match answer {
-        JobAnswer::Entries(n) => line.len + parts_length(stream, job, n as usize),
-        JobAnswer::Refused(_) => line.len,
+        Ok(n) => line.len + parts_length::<S>(job, n as usize),
+        Err(_) => line.len,
     }
 }
 
-fn put_output(stream: Stream, job: &[u8], out: &mut [u8]) -> usize
-    requires { length (output_of stream (Job.job 1 job.now)) ≤ length out.old }
-    ensures { PutsText out.old 0 (output_of stream (Job.job 1 job.now)) result out.new }
+fn put_output<S: Stream>(job: &[u8], out: &mut [u8]) -> usize
+    requires { length (output_of S.head_text S.part_text (Job.job 1 job.now)) ≤ length out.old }
+    ensures { PutsText out.old 0 (output_of S.head_text S.part_text (Job.job 1 job.now)) result out.new }
 {
     let answer = job::entries(job);
-    let start = put_line(&mut *out, 0, head(stream, answer));
+    let start = put_line(&mut *out, 0, S::head(answer));
     match answer {
-        JobAnswer::Entries(n) => put_parts(stream, job, n as usize, &mut *out, start),
-        JobAnswer::Refused(_) => start,
+        Ok(n) => put_parts::<S>(job, n as usize, &mut *out, start),
+        Err(_) => start,
     }
 }
 
-fn lend(stream: Stream, job: &[u8], out: &mut [u8]) -> Output
-    ensures { Lends (output_of stream (Job.job 1 job.now)) out.old out.new result }
+// How many bytes were put to the front of a lent output; or 9, where it is too short for them.
+fn lend<S: Stream>(job: &[u8], out: &mut [u8]) -> Result<usize, Refusal>
+    ensures { Lends (output_of S.head_text S.part_text (Job.job 1 job.now)) out.old out.new (checked result) }
 {
-    if out.len() < output_length(stream, job) {
-        return Output::Refused(writer::TOO_SHORT);
+    if out.len() < output_length::<S>(job) {
+        return Err(Refusal::TooShort);
     }
-    Output::Written(put_output(stream, job, out))
+    Ok(put_output::<S>(job, out))
 }
 
 // ---- the calls
@@ -109,52 +100,38 @@ fn lend(stream: Stream, job: &[u8], out: &mut [u8]) -> Output
 pub fn listing_length(job: &[u8]) -> usize
     ensures { result ≡ length (Out.listing (Job.job 1 job.now)) }
 {
-    output_length(Stream::Listing, job)
+    output_length::<Listing>(job)
 }
 
-// PutsText the listing of a job to the front of the output.
-pub fn listing(job: &[u8], out: &mut [u8]) -> Output
-    ensures { Lends (Out.listing (Job.job 1 job.now)) out.old out.new result }
+// Puts the listing of a job to the front of the output, and answers how many bytes it has; or 9, where the output is too short.
+pub fn listing(job: &[u8], out: &mut [u8]) -> Result<usize, Refusal>
+    ensures { Lends (Out.listing (Job.job 1 job.now)) out.old out.new (checked result) }
 {
-    lend(Stream::Listing, job, out)
+    lend::<Listing>(job, out)
 }
 
 // How many bytes the accepted profiles of a job have together.
 pub fn profiles_length(job: &[u8]) -> usize
     ensures { result ≡ length (Out.profiles (Job.job 1 job.now)) }
 {
-    output_length(Stream::Profiles, job)
+    output_length::<Profiles>(job)
 }
 
-// PutsText the accepted profiles of a job, one after another, to the front of the output; of a refused job nothing.
-pub fn profiles(job: &[u8], out: &mut [u8]) -> Output
-    ensures { Lends (Out.profiles (Job.job 1 job.now)) out.old out.new result }
+// Puts the accepted profiles of a job, one after another, to the front of the output, and answers likewise; of a refused job nothing.
+pub fn profiles(job: &[u8], out: &mut [u8]) -> Result<usize, Refusal>
+    ensures { Lends (Out.profiles (Job.job 1 job.now)) out.old out.new (checked result) }
 {
-    lend(Stream::Profiles, job, out)
+    lend::<Profiles>(job, out)
 }
 
-fn from_writer(answer: Profile) -> JobProfile
-    ensures { result ≡ from_writer answer }
+// Writes the profile of the i-th entry, the first being the 0-th over all sections, to the front of the output. Its length; none, where the job has
+// no such entry; or the refusal of the job or of the entry.
+pub fn profile(job: &[u8], i: usize, out: &mut [u8]) -> Result<Option<u32>, Refusal>
+    ensures { ProfileOf (λ p. p) (entry_answer (Job.job 1 job.now) i) out.old out.new (checked result) }
 {
-    match answer {
-        Profile::Written {
-            length: n,
-            rounded: _,
-        } => JobProfile::Written(n),
-        Profile::Refused(k) => JobProfile::Refused(k),
-    }
-}
-
-// Writes the profile of the i-th entry, the first being the 0-th over all sections, to the front of the output.
-pub fn profile(job: &[u8], i: usize, out: &mut [u8]) -> JobProfile
-    ensures { ProfileOf (λ p. p) (entry_answer (Job.job 1 job.now) i) out.old out.new result }
-{
-    match job::entry(job, i) {
-        EntryAnswer::Is(entry) => {
-            let encoding = entry.encoding;
-            from_writer(writer::maybe_create_profile(encoding_plan::plain_encoding(encoding), out))
-        }
-        EntryAnswer::Absent => JobProfile::Absent,
-        EntryAnswer::Refused(k) => JobProfile::Refused(k),
-    }
+    let Some(entry) = job::entry(job, i)? else {
+        return Ok(None);
+    };
+    let written = writer::maybe_create_profile(entry.encoding.into(), out)?;
+    Ok(Some(written.length))
 }
