@@ -10,13 +10,10 @@ ghost use Rattle.scanner.specs.Places.{behind, found_at, first_named};
 pub fn letters_at(text: &[u8], at: usize, letters: &[u8]) -> bool
     ensures { result ≡ starts_with letters.now (drop at text.now) }
 {
-    if text.len() < at {
-        return letters.len() == 0;
+    match text.get(at..) {
+        Some(rest) => rest.starts_with(letters),
+        None => letters.is_empty(),
     }
-    if text.len() - at < letters.len() {
-        return false;
-    }
-    buffer::same_bytes(letters, &text[at..at + letters.len()])
 }
 
 // The place after letters that stand at a place.

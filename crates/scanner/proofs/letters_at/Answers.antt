@@ -1,25 +1,17 @@
--- In an empty rest, in a short rest, in a rest that is long enough. Assumes nothing.
-use Prim.Native.Nat.{ℕ, ◌+◌, ◌-◌}
-use native.Mathlib.Omega.{arith}
-use mathlib.Core.Path.{◌≡◌, ap, ◌∙◌}
-use lib.ListN.{length, take, drop, length-drop}
-use Rattle.buffer.specs.Bytes.{same}
-use Rattle.scanner.specs.PlacesLaws.{starts_none, starts_short, starts_same}
+-- In the rest of the text, or past its end. Assumes nothing.
+use Rattle.std.proofs.Common.{◌∙◌, ap, ◌<◌, length, drop, arith, take_all, length-drop, inl, inr}
+use Rattle.scanner.specs.Scan.{starts_with}
+use Rattle.scanner.specs.PlacesLaws.{starts_none, starts_same}
 use Rattle.scanner.proofs.letters_at.Goals as goal
 
-pub returns-then-text-at : goal.returns-then-text-at
-returns-then-text-at c = let s = c.args in starts_none s.letters.now s.at s.text.now c.if-text-at.true
-
-pub returns-then-text-at-2 : goal.returns-then-text-at-2
-returns-then-text-at-2 c =
+pub returns-in-Some : goal.returns-in-Some
+returns-in-Some c =
     let s = c.args in
-    starts_short s.letters.now (drop s.at s.text.now) (omega (arith, length-drop s.at s.text.now, c.if-text-at-2.true))
+    let whole = take_all _ (drop s.at s.text.now) (omega (arith, length-drop s.at s.text.now)) in
+    c.starts_with.ensures.value ∙ starts_same s.letters.now c.in-Some.rest.now ∙ ap (starts_with s.letters.now) (c.in-Some.ensures.lookup.0.2 ∙ whole)
 
-pub returns : goal.returns
-returns c =
+pub returns-in-None : goal.returns-in-None
+returns-in-None c =
     let s = c.args in
-    let n = length s.letters.now in
-    c.same_bytes.ensures ∙ ap (λ (k : ℕ). same s.letters.now (take k (drop s.at s.text.now))) (count s.at n) ∙ starts_same s.letters.now (drop s.at s.text.now)
-  where
-    count : (at n : ℕ) → at + n - at ≡ n
-    count at n = omega arith
+    let past : length s.text.now < s.at = elim c.in-None.ensures.lookup.0 [ inl h ↦ h | inr h ↦ absurd (omega (arith, h)) ] in
+    c.is_empty.ensures ∙ starts_none s.letters.now s.at s.text.now past
