@@ -9,6 +9,8 @@ use Rattle.color_encoding.specs.declared.JxlPrimaries.{JxlPrimaries}
 use Rattle.color_encoding.specs.declared.JxlPrimaries.TheVariants as P
 use Rattle.color_encoding.specs.declared.JxlTransferFunction.{JxlTransferFunction}
 use Rattle.color_encoding.specs.declared.JxlTransferFunction.TheVariants as F
+use Rattle.color_encoding.specs.declared.JxlColorEncoding.{JxlColorEncoding}
+use Rattle.color_encoding.specs.declared.JxlColorEncoding.TheVariants.{RgbColorSpace, GrayscaleColorSpace, XYB}
 use Rattle.color_encoding.specs.Codes.{white_point_number, primaries_number, transfer_function_number}
 use Rattle.color_encoding.specs.Intent.{intent_number}
 
@@ -53,3 +55,9 @@ Room (Some name) = (0 < length name) × (length name ≤ 10)
 pub record Named (w : JxlWhitePoint) (p : JxlPrimaries) (t : JxlTransferFunction) (i : RenderingIntent) (name : Option (List ℕ)) : Type 0 where
   pub room : Room name
   pub named : (text : List ℕ) → common w p t i text ≡ called name text
+
+-- none but RGB encodings have one
+abbrev pub IsNamed : JxlColorEncoding → Option (List ℕ) → Type 0
+IsNamed (RgbColorSpace w p t i) name = Named w p t i name
+IsNamed (GrayscaleColorSpace w t i) name = name ≡ None
+IsNamed (XYB i) name = name ≡ None

@@ -3,35 +3,41 @@
 #![tactic(auto)]
 
 ghost use Rattle.std.specs.Prelude.{option_map};
-ghost use Rattle.common_names.specs.Common.{Named};
+ghost use Rattle.common_names.specs.Common.{IsNamed};
 
-use color_encoding::{JxlPrimaries, JxlTransferFunction, JxlWhitePoint, RenderingIntent};
+use color_encoding::{
+    JxlColorEncoding, JxlPrimaries, JxlTransferFunction, JxlWhitePoint, RenderingIntent,
+};
 
-// The common name that an RGB encoding has. Each of them has the white point D65.
-pub fn common_name(
-    white: JxlWhitePoint,
-    primaries: JxlPrimaries,
-    transfer: JxlTransferFunction,
-    intent: RenderingIntent,
-) -> Option<&'static str>
-    ensures { Named white primaries transfer intent (option_map (λ s. s.now) result) }
+// The common name that an encoding has.
+pub fn common_name(encoding: JxlColorEncoding) -> Option<&'static str>
+    ensures { IsNamed encoding (option_map (λ s. s.now) result) }
 {
-    let JxlWhitePoint::D65 = white else {
-        return None;
-    };
-    match (primaries, transfer, intent) {
-        (JxlPrimaries::SRGB, JxlTransferFunction::SRGB, RenderingIntent::Perceptual) => Some(
-            "sRGB",
-        ),
-        (JxlPrimaries::P3, JxlTransferFunction::SRGB, RenderingIntent::Perceptual) => Some(
-            "DisplayP3",
-        ),
-        (JxlPrimaries::BT2100, JxlTransferFunction::PQ, RenderingIntent::Relative) => Some(
-            "Rec2100PQ",
-        ),
-        (JxlPrimaries::BT2100, JxlTransferFunction::HLG, RenderingIntent::Relative) => Some(
-            "Rec2100HLG",
-        ),
+    match encoding {
+        JxlColorEncoding::RgbColorSpace {
+            white_point: JxlWhitePoint::D65,
+            primaries: JxlPrimaries::SRGB,
+            transfer_function: JxlTransferFunction::SRGB,
+            rendering_intent: RenderingIntent::Perceptual,
+        } => Some("sRGB"),
+        JxlColorEncoding::RgbColorSpace {
+            white_point: JxlWhitePoint::D65,
+            primaries: JxlPrimaries::P3,
+            transfer_function: JxlTransferFunction::SRGB,
+            rendering_intent: RenderingIntent::Perceptual,
+        } => Some("DisplayP3"),
+        JxlColorEncoding::RgbColorSpace {
+            white_point: JxlWhitePoint::D65,
+            primaries: JxlPrimaries::BT2100,
+            transfer_function: JxlTransferFunction::PQ,
+            rendering_intent: RenderingIntent::Relative,
+        } => Some("Rec2100PQ"),
+        JxlColorEncoding::RgbColorSpace {
+            white_point: JxlWhitePoint::D65,
+            primaries: JxlPrimaries::BT2100,
+            transfer_function: JxlTransferFunction::HLG,
+            rendering_intent: RenderingIntent::Relative,
+        } => Some("Rec2100HLG"),
         _ => None,
     }
 }

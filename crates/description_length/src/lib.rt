@@ -2,14 +2,12 @@
 
 #![tactic(auto)]
 
-ghost use Rattle.std.specs.Prelude.{◌≡◌, length};
+ghost use Rattle.std.specs.Prelude.{◌≡◌, ◌+◌, ◌≤◌, length};
 ghost use Rattle.decimal.specs.Seven.{seven_decimals};
-ghost use Rattle.text.specs.Description.{comma, pair, white_name, primaries_name, transfer_name, rgb_text, rgb_description, gray_text, description};
+ghost use Rattle.text.specs.Description.{comma, pair, white_name, primaries_name, transfer_name, description};
 ghost use Rattle.description_length.specs.Lengths.{LengthOf};
 
-use color_encoding::{
-    JxlColorEncoding, JxlPrimaries, JxlTransferFunction, JxlWhitePoint, RenderingIntent,
-};
+use color_encoding::{JxlColorEncoding, JxlPrimaries, JxlTransferFunction, JxlWhitePoint};
 use common_names::common_name;
 
 // The letters of a part that has a name, of "RGB_", "Gra_" and "XYB_", of an intent and of a separator.
@@ -82,67 +80,35 @@ fn transfer_length(transfer: JxlTransferFunction) -> usize
     }
 }
 
-// "Gra_", white, intent, curve.
-#[tactic(auto, unfolding(text::specs::Description::gray_text))]
-fn gray_length(
-    white: JxlWhitePoint,
-    transfer: JxlTransferFunction,
-    intent: RenderingIntent,
-) -> usize
-    ensures { result ≡ length (gray_text white transfer intent) }
+// The end of a description: the intent and the transfer function.
+fn end_length(transfer: JxlTransferFunction) -> usize
+    ensures { (result ≡ 5 + length (transfer_name transfer)) × (result ≤ 54) }
 {
-    let start = SPACE + white_length(white);
-    let end = SEPARATOR + INTENT + SEPARATOR + transfer_length(transfer);
-    start + end
+    SEPARATOR + INTENT + SEPARATOR + transfer_length(transfer)
 }
 
-// "RGB_", white, primaries, intent, curve.
-#[tactic(auto, unfolding(text::specs::Description::rgb_text))]
-fn rgb_text_length(
-    white: JxlWhitePoint,
-    primaries: JxlPrimaries,
-    transfer: JxlTransferFunction,
-    intent: RenderingIntent,
-) -> usize
-    ensures { result ≡ length (rgb_text white primaries transfer intent) }
-{
-    let start = SPACE + white_length(white) + SEPARATOR + primaries_length(primaries);
-    let end = SEPARATOR + INTENT + SEPARATOR + transfer_length(transfer);
-    start + end
-}
-
-// Of a common name, or of the text.
-#[tactic(auto, unfolding(text::specs::Description::rgb_description))]
-fn rgb_length(
-    white: JxlWhitePoint,
-    primaries: JxlPrimaries,
-    transfer: JxlTransferFunction,
-    intent: RenderingIntent,
-) -> usize
-    ensures { result ≡ length (rgb_description white primaries transfer intent) }
-{
-    match common_name(white, primaries, transfer, intent) {
-        Some(name) => name.len(),
-        None => rgb_text_length(white, primaries, transfer, intent),
-    }
-}
-
-#[tactic(auto, unfolding(text::specs::Description::description, text::specs::Description::xyb_text))]
+#[tactic(auto, unfolding(text::specs::Description::rgb_text, text::specs::Description::gray_text, text::specs::Description::xyb_text, text::specs::Description::rgb_description, text::specs::Description::description))]
 pub fn description_length(encoding: JxlColorEncoding) -> usize
     ensures { result ≡ length (description encoding) }
 {
+    if let Some(name) = common_name(encoding) {
+        return name.len();
+    }
     match encoding {
         JxlColorEncoding::RgbColorSpace {
             white_point,
             primaries,
             transfer_function,
-            rendering_intent,
-        } => rgb_length(white_point, primaries, transfer_function, rendering_intent),
+            ..
+        } => {
+            let white = SPACE + white_length(white_point);
+            white + SEPARATOR + primaries_length(primaries) + end_length(transfer_function)
+        }
         JxlColorEncoding::GrayscaleColorSpace {
             white_point,
             transfer_function,
-            rendering_intent,
-        } => gray_length(white_point, transfer_function, rendering_intent),
+            ..
+        } => SPACE + white_length(white_point) + end_length(transfer_function),
         JxlColorEncoding::XYB { .. } => SPACE + INTENT,
     }
 }

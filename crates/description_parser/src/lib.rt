@@ -46,7 +46,7 @@ fn rgb_at(text: &[u8]) -> Option<(JxlColorEncoding, usize)>
         transfer_function,
         rendering_intent,
     };
-    match common_name(white_point, primaries, transfer_function, rendering_intent) {
+    match common_name(encoding) {
         Some(_) => None,
         None => Some((encoding, next)),
     }

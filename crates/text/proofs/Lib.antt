@@ -1,2 +1,2 @@
-pub mod End
+pub mod Described
 pub mod HeldValues

@@ -34,8 +34,8 @@ fn put_space(out: &mut [u8], space: &[u8; 4], white: JxlWhitePoint) -> usize
     requires { max_bytes ≤ length out.old }
     ensures { PutsPart 101 (HeldWhite white) out.old 0 (space.now ++ white_name white) result out.new }
 {
-    let i = put_bytes(&mut *out, 0, space);
-    put_white(&mut *out, i, white)
+    let i = put_bytes(out, 0, space);
+    put_white(out, i, white)
 }
 
 // The end of a description: the intent and the transfer function.
@@ -48,94 +48,44 @@ fn put_end(
     requires { at + 54 ≤ length out.old }
     ensures { PutsPart 54 (HeldTransfer transfer) out.old at (underscore ++ intent_name intent ++ underscore ++ transfer_name transfer) result out.new }
 {
-    let intent_at = put_byte(&mut *out, at, b'_');
-    let intent_end = put_intent(&mut *out, intent_at, intent);
-    let transfer_at = put_byte(&mut *out, intent_end, b'_');
-    put_transfer(&mut *out, transfer_at, transfer)
-}
-
-// "RGB_", white, primaries, intent, curve.
-fn put_rgb_text(
-    out: &mut [u8],
-    white: JxlWhitePoint,
-    primaries: JxlPrimaries,
-    transfer: JxlTransferFunction,
-    intent: RenderingIntent,
-) -> usize
-    requires { max_bytes ≤ length out.old }
-    ensures { PutsDescription (InRange white) (rgb_text white primaries transfer intent) out.old result out.new }
-{
-    let white_end = put_space(&mut *out, b"RGB_", white);
-    let primaries_at = put_byte(&mut *out, white_end, b'_');
-    let primaries_end = put_primaries(&mut *out, primaries_at, primaries);
-    put_end(&mut *out, primaries_end, intent, transfer)
-}
-
-// "Gra_", white, intent, curve.
-fn put_gray(
-    out: &mut [u8],
-    white: JxlWhitePoint,
-    transfer: JxlTransferFunction,
-    intent: RenderingIntent,
-) -> usize
-    requires { max_bytes ≤ length out.old }
-    ensures { PutsDescription (Unit {0}) (gray_text white transfer intent) out.old result out.new }
-{
-    let white_end = put_space(&mut *out, b"Gra_", white);
-    put_end(&mut *out, white_end, intent, transfer)
-}
-
-// "XYB_", intent.
-fn put_xyb(out: &mut [u8], intent: RenderingIntent) -> usize
-    requires { max_bytes ≤ length out.old }
-    ensures { PutsDescription (Unit {0}) (xyb_text intent) out.old result out.new }
-{
-    let intent_at = put_bytes(&mut *out, 0, b"XYB_");
-    put_intent(&mut *out, intent_at, intent)
-}
-
-// A common name, or the text of an RGB encoding.
-fn put_rgb(
-    out: &mut [u8],
-    white: JxlWhitePoint,
-    primaries: JxlPrimaries,
-    transfer: JxlTransferFunction,
-    intent: RenderingIntent,
-) -> usize
-    requires { max_bytes ≤ length out.old }
-    ensures { PutsDescription (InRange white) (rgb_description white primaries transfer intent) out.old result out.new }
-{
-    match common_name(white, primaries, transfer, intent) {
-        Some(name) => put_bytes(out, 0, name.as_bytes()),
-        None => put_rgb_text(out, white, primaries, transfer, intent),
-    }
+    let intent_at = put_byte(out, at, b'_');
+    let intent_end = put_intent(out, intent_at, intent);
+    let transfer_at = put_byte(out, intent_end, b'_');
+    put_transfer(out, transfer_at, transfer)
 }
 
 // The description of an encoding, put to the front of a slice that has room for any; answers its length.
-#[tactic(auto, unfolding(crate::specs::Description::description))]
 pub fn put_description(out: &mut [u8], encoding: JxlColorEncoding) -> usize
     requires { max_bytes ≤ length out.old }
     ensures { PutsDescription (WhiteInRange encoding) (description encoding) out.old result out.new }
 {
+    if let Some(name) = common_name(encoding) {
+        return put_bytes(out, 0, name.as_bytes());
+    }
     match encoding {
         JxlColorEncoding::RgbColorSpace {
             white_point,
             primaries,
             transfer_function,
             rendering_intent,
-        } => put_rgb(
-            out,
-            white_point,
-            primaries,
-            transfer_function,
-            rendering_intent,
-        ),
+        } => {
+            let white_end = put_space(out, b"RGB_", white_point);
+            let primaries_at = put_byte(out, white_end, b'_');
+            let primaries_end = put_primaries(out, primaries_at, primaries);
+            put_end(out, primaries_end, rendering_intent, transfer_function)
+        }
         JxlColorEncoding::GrayscaleColorSpace {
             white_point,
             transfer_function,
             rendering_intent,
-        } => put_gray(out, white_point, transfer_function, rendering_intent),
-        JxlColorEncoding::XYB { rendering_intent } => put_xyb(out, rendering_intent),
+        } => {
+            let white_end = put_space(out, b"Gra_", white_point);
+            put_end(out, white_end, rendering_intent, transfer_function)
+        }
+        JxlColorEncoding::XYB { rendering_intent } => {
+            let intent_at = put_bytes(out, 0, b"XYB_");
+            put_intent(out, intent_at, rendering_intent)
+        }
     }
 }
 
