@@ -21,13 +21,7 @@ pub fn intent_is_good(intent: u32) -> bool
 pub fn shape_is_good(shape: Shape) -> bool
     ensures { (result ≡ true → GoodShape shape) × (GoodShape shape → result ≡ true) }
 {
-    if shape.letters == 0 {
-        return false;
-    }
-    if MAX_LETTERS < shape.letters {
-        return false;
-    }
-    !(shape.cicp && shape.gamma)
+    (1..=MAX_LETTERS).contains(&shape.letters) && !(shape.cicp && shape.gamma)
 }
 
 // ---- the range of the numbers
