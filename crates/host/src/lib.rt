@@ -4,7 +4,8 @@
 
 #![tactic(auto)]
 
-ghost use Rattle.std.specs.Prelude.{length, false};
+ghost use Rattle.std.specs.Prelude.{◌≡◌, length, false};
+ghost use Rattle.refusals.specs.Refusals.{checked};
 ghost use Rattle.color_encoding.specs.Codes.{white_point_from, primaries_from, transfer_function_from, intent_from};
 ghost use Rattle.color_encoding.specs.Codes.{gray_from, rgb_from, xyb_from};
 ghost use Rattle.description_parser.specs.Parse.{parse};
@@ -15,14 +16,24 @@ ghost use Rattle.words.specs.Words.{be32};
 ghost use Rattle.reader_spec.specs.Read as Read;
 ghost use Rattle.reader_spec.specs.Finder as Finder;
 ghost use Rattle.reading.specs.Reading.{reading};
+ghost use Rattle.app2.specs.App2 as App2;
 ghost use Rattle.app2.specs.App2.{written_segments, joined_file};
 ghost use Rattle.coded_writer.specs.CodedWriter.{coded, plain, coded_by, WritesCode, MeasuresCode, WritesCounted, MeasuresCounted};
 ghost use Rattle.host.specs.Host.{CountsEntries, profile_number, ReadsPlan, StoresEncoding, FindsElement, GivesNumber};
 
-use app2::Output;
-use description_parser::Parsed;
-use job::JobAnswer;
-use job_output::JobProfile;
+use color_encoding::{PrimariesXy, WhiteXy};
+use refusals::Refusal;
+
+// ---- a call's answer as one number
+
+fn answered(answer: Result<u32, Refusal>) -> u32
+    ensures { result ≡ App2.number (checked answer) }
+{
+    match answer {
+        Ok(number) => number,
+        Err(refusal) => refusal.number(),
+    }
+}
 
 // ---- the profile of an encoding
 
@@ -38,7 +49,7 @@ pub fn merqyduk_write_gray(
     ensures { WritesCode (plain (gray_from (white_point_from white wx wy) (transfer_function_from curve gamma) (intent_from intent))) out.old out.new result }
 {
     coded_writer::write(
-        encoding_codes::gray_from_numbers(white, wx, wy, curve, gamma, intent),
+        encoding_codes::gray_from_numbers(white, WhiteXy { wx, wy }, curve, gamma, intent),
         0,
         0,
         out,
@@ -65,7 +76,20 @@ pub fn merqyduk_write_rgb(
 {
     coded_writer::write(
         encoding_codes::rgb_from_numbers(
-            white, wx, wy, primaries, rx, ry, gx, gy, bx, by, curve, gamma, intent,
+            white,
+            WhiteXy { wx, wy },
+            primaries,
+            PrimariesXy {
+                rx,
+                ry,
+                gx,
+                gy,
+                bx,
+                by,
+            },
+            curve,
+            gamma,
+            intent,
         ),
         0,
         0,
@@ -95,7 +119,7 @@ pub fn merqyduk_write_gray_device(
     ensures { WritesCode (coded false maker model (gray_from (white_point_from white wx wy) (transfer_function_from curve gamma) (intent_from intent))) out.old out.new result }
 {
     coded_writer::write(
-        encoding_codes::gray_from_numbers(white, wx, wy, curve, gamma, intent),
+        encoding_codes::gray_from_numbers(white, WhiteXy { wx, wy }, curve, gamma, intent),
         maker,
         model,
         out,
@@ -124,7 +148,20 @@ pub fn merqyduk_write_rgb_device(
 {
     coded_writer::write(
         encoding_codes::rgb_from_numbers(
-            white, wx, wy, primaries, rx, ry, gx, gy, bx, by, curve, gamma, intent,
+            white,
+            WhiteXy { wx, wy },
+            primaries,
+            PrimariesXy {
+                rx,
+                ry,
+                gx,
+                gy,
+                bx,
+                by,
+            },
+            curve,
+            gamma,
+            intent,
         ),
         maker,
         model,
@@ -152,7 +189,7 @@ pub fn merqyduk_length_gray(
     ensures { MeasuresCode (plain (gray_from (white_point_from white wx wy) (transfer_function_from curve gamma) (intent_from intent))) capacity result }
 {
     coded_writer::length(
-        encoding_codes::gray_from_numbers(white, wx, wy, curve, gamma, intent),
+        encoding_codes::gray_from_numbers(white, WhiteXy { wx, wy }, curve, gamma, intent),
         capacity,
     )
 }
@@ -177,7 +214,20 @@ pub fn merqyduk_length_rgb(
 {
     coded_writer::length(
         encoding_codes::rgb_from_numbers(
-            white, wx, wy, primaries, rx, ry, gx, gy, bx, by, curve, gamma, intent,
+            white,
+            WhiteXy { wx, wy },
+            primaries,
+            PrimariesXy {
+                rx,
+                ry,
+                gx,
+                gy,
+                bx,
+                by,
+            },
+            curve,
+            gamma,
+            intent,
         ),
         capacity,
     )
@@ -204,7 +254,7 @@ pub fn merqyduk_write_gray_counted(
     ensures { WritesCounted (plain (gray_from (white_point_from white wx wy) (transfer_function_from curve gamma) (intent_from intent))) out.old out.new rounded.old rounded.new result }
 {
     coded_writer::write_counted(
-        encoding_codes::gray_from_numbers(white, wx, wy, curve, gamma, intent),
+        encoding_codes::gray_from_numbers(white, WhiteXy { wx, wy }, curve, gamma, intent),
         out,
         rounded,
     )
@@ -231,7 +281,20 @@ pub fn merqyduk_write_rgb_counted(
 {
     coded_writer::write_counted(
         encoding_codes::rgb_from_numbers(
-            white, wx, wy, primaries, rx, ry, gx, gy, bx, by, curve, gamma, intent,
+            white,
+            WhiteXy { wx, wy },
+            primaries,
+            PrimariesXy {
+                rx,
+                ry,
+                gx,
+                gy,
+                bx,
+                by,
+            },
+            curve,
+            gamma,
+            intent,
         ),
         out,
         rounded,
@@ -257,7 +320,7 @@ pub fn merqyduk_length_gray_counted(
     ensures { MeasuresCounted (plain (gray_from (white_point_from white wx wy) (transfer_function_from curve gamma) (intent_from intent))) capacity rounded.old rounded.new result }
 {
     coded_writer::length_counted(
-        encoding_codes::gray_from_numbers(white, wx, wy, curve, gamma, intent),
+        encoding_codes::gray_from_numbers(white, WhiteXy { wx, wy }, curve, gamma, intent),
         capacity,
         rounded,
     )
@@ -284,7 +347,20 @@ pub fn merqyduk_length_rgb_counted(
 {
     coded_writer::length_counted(
         encoding_codes::rgb_from_numbers(
-            white, wx, wy, primaries, rx, ry, gx, gy, bx, by, curve, gamma, intent,
+            white,
+            WhiteXy { wx, wy },
+            primaries,
+            PrimariesXy {
+                rx,
+                ry,
+                gx,
+                gy,
+                bx,
+                by,
+            },
+            curve,
+            gamma,
+            intent,
         ),
         capacity,
         rounded,
@@ -315,7 +391,7 @@ pub fn merqyduk_write_gray_adapted(
     ensures { WritesCounted (coded_by adapted maker model (gray_from (white_point_from white wx wy) (transfer_function_from curve gamma) (intent_from intent))) out.old out.new rounded.old rounded.new result }
 {
     coded_writer::write_adapted(
-        encoding_codes::gray_from_numbers(white, wx, wy, curve, gamma, intent),
+        encoding_codes::gray_from_numbers(white, WhiteXy { wx, wy }, curve, gamma, intent),
         adapted,
         maker,
         model,
@@ -338,7 +414,7 @@ pub fn merqyduk_length_gray_adapted(
     ensures { MeasuresCounted (coded_by adapted 0 0 (gray_from (white_point_from white wx wy) (transfer_function_from curve gamma) (intent_from intent))) capacity rounded.old rounded.new result }
 {
     coded_writer::length_adapted(
-        encoding_codes::gray_from_numbers(white, wx, wy, curve, gamma, intent),
+        encoding_codes::gray_from_numbers(white, WhiteXy { wx, wy }, curve, gamma, intent),
         adapted,
         capacity,
         rounded,
@@ -347,19 +423,21 @@ pub fn merqyduk_length_gray_adapted(
 
 // ---- the encoding that a typed text describes
 
+fn store_encoding(text: &[u8], encoding: &mut [u8]) -> Result<u32, Refusal>
+    ensures { StoresEncoding (parse text.now) encoding.old encoding.new (App2.number (checked result)) }
+{
+    let parsed = description_parser::parse_description(text)?;
+    if encoding.len() < encoding_record::ENCODING_SIZE {
+        return Err(Refusal::TooShort);
+    }
+    encoding_record::put_encoding_record(encoding, 0, parsed);
+    Ok(0)
+}
+
 pub fn merqyduk_parse_description(text: &[u8], encoding: &mut [u8]) -> u32
     ensures { StoresEncoding (parse text.now) encoding.old encoding.new result }
 {
-    match description_parser::parse_description(text) {
-        Parsed::Encoding(parsed) => {
-            if encoding.len() < encoding_record::ENCODING_SIZE {
-                return writer::TOO_SHORT;
-            }
-            encoding_record::put_encoding_record(encoding, 0, parsed);
-            0
-        }
-        Parsed::Refused(number) => number,
-    }
+    answered(store_encoding(text, encoding))
 }
 
 // ---- jobs
@@ -368,11 +446,11 @@ pub fn merqyduk_job(job: &[u8], entries: &mut u32) -> u32
     ensures { CountsEntries (job_answer (Job.job 1 job.now)) entries.old entries.new result }
 {
     match job::entries(job) {
-        JobAnswer::Entries(n) => {
+        Ok(n) => {
             *entries = n;
             0
         }
-        JobAnswer::Refused(number) => number,
+        Err(refusal) => refusal.number(),
     }
 }
 
@@ -381,26 +459,28 @@ pub fn merqyduk_job_profile(job: &[u8], i: usize, out: &mut [u8]) -> u32
     ensures { ProfileOf profile_number (entry_answer (Job.job 1 job.now) i) out.old out.new result }
 {
     match job_output::profile(job, i, out) {
-        JobProfile::Written(n) => n,
-        JobProfile::Absent => 0,
-        JobProfile::Refused(number) => number,
+        Ok(length) => length.unwrap_or(0),
+        Err(refusal) => refusal.number(),
     }
 }
 
 // ---- files
 
+fn store_plan(file: &[u8], plan: &mut [u8]) -> Result<u32, Refusal>
+    ensures { ReadsPlan (reading (Read.read file.now)) plan.old plan.new (App2.number (checked result)) }
+{
+    let answer = reader::read(file)?;
+    if plan.len() < plan_record::RECORD_SIZE {
+        return Err(Refusal::TooShort);
+    }
+    plan_record::put_plan_record(plan, 0, answer);
+    Ok(0)
+}
+
 pub fn merqyduk_read(file: &[u8], plan: &mut [u8]) -> u32
     ensures { ReadsPlan (reading (Read.read file.now)) plan.old plan.new result }
 {
-    let answer = reader::read(file);
-    if answer.refusal != 0 {
-        return answer.refusal;
-    }
-    if plan.len() < plan_record::RECORD_SIZE {
-        return writer::TOO_SHORT;
-    }
-    plan_record::put_plan_record(plan, 0, answer);
-    0
+    answered(store_plan(file, plan))
 }
 
 // The signature is its four bytes as one number, the first byte the most significant.
@@ -409,7 +489,9 @@ pub fn merqyduk_find(file: &[u8], signature: u32, offset: &mut u32) -> u32
 {
     let mut bytes = [0u8; 4];
     words::put_u32_be(&mut bytes, 0, signature);
-    let line = reader::find_line(file, bytes);
+    let Some(line) = reader::find_line(file, bytes) else {
+        return 0;
+    };
     if line.size != 0 {
         *offset = line.offset;
     }
@@ -421,17 +503,11 @@ pub fn merqyduk_find(file: &[u8], signature: u32, offset: &mut u32) -> u32
 pub fn merqyduk_write_segments(file: &[u8], size: usize, out: &mut [u8]) -> u32
     ensures { GivesNumber (written_segments file.now size (length out.old)) out.old out.new result }
 {
-    match segments_writer::write_segments(file, size, out) {
-        Output::Written(n) => n,
-        Output::Refused(number) => number,
-    }
+    answered(segments_writer::write_segments(file, size, out))
 }
 
 pub fn merqyduk_join_segments(segments: &[u8], out: &mut [u8]) -> u32
     ensures { GivesNumber (joined_file segments.now (length out.old)) out.old out.new result }
 {
-    match segments_joiner::join_segments(segments, out) {
-        Output::Written(n) => n,
-        Output::Refused(number) => number,
-    }
+    answered(segments_joiner::join_segments(segments, out))
 }
