@@ -2,7 +2,7 @@
 
 #![tactic(auto)]
 
-use job_output::{MOST_LISTING, Output};
+use job_output::MOST_LISTING;
 use std::io;
 
 // One byte more than the longest job has: of a longer input no more need be read, since it is refused 42 whatever it holds
@@ -14,7 +14,7 @@ fn main(rt: HostRuntime) -> io::Result<()> {
     let mut text = [0u8; MOST_LISTING];
     let n = streams::read_full(&mut rt.stdin(), &mut job);
     match job_output::listing(&job[..n], &mut text) {
-        Output::Written(len) => rt.write_all(&text[..len]),
-        Output::Refused(_) => Ok(()),
+        Ok(len) => rt.write_all(&text[..len]),
+        Err(_) => Ok(()),
     }
 }

@@ -4,7 +4,7 @@
 
 ghost use Rattle.std.specs.Prelude.{◌≡◌, length};
 
-use job_output::{MOST_PROFILES, Output};
+use job_output::MOST_PROFILES;
 use std::io;
 
 // One byte more than the longest job has: of a longer input no more need be read, since it is refused 42 whatever it holds
@@ -23,7 +23,7 @@ fn main(rt: HostRuntime) -> io::Result<()> {
     let mut bytes = room();
     let n = streams::read_full(&mut rt.stdin(), &mut job);
     match job_output::profiles(&job[..n], &mut bytes) {
-        Output::Written(len) => rt.write_all(&bytes[..len]),
-        Output::Refused(_) => Ok(()),
+        Ok(len) => rt.write_all(&bytes[..len]),
+        Err(_) => Ok(()),
     }
 }

@@ -4,22 +4,17 @@
 
 #![tactic(auto)]
 
-ghost use Rattle.std.specs.Prelude.{◌≡◌, ◌≤◌, length};
+ghost use Rattle.std.specs.Prelude.{◌≡◌, length};
 
-use adaptation::Adaptation;
 use buffer::{byte_at, same_bytes};
-use color_encoding::{EncodingCode, JxlColorEncoding, PrimariesXy, WhiteXy};
-use colorimetry::Conversion;
+use color_encoding::{JxlColorEncoding, PrimariesXy, WhiteXy};
 use encoding_plan::Encoding;
-use job::JobAnswer;
-use job_output::{JobProfile, MOST_LISTING, Output};
-use numbers::S15Fixed16;
+use job_output::MOST_LISTING;
 use reading::Reading;
+use refusals::Refusal;
 use std::io;
-use std::num::{wrapping_add_u64, wrapping_add_usize, wrapping_sub_usize};
-use white_point::WhiteXyz;
 use words::read_u32_be;
-use writer::{MAX_WRITTEN, Profile};
+use writer::MAX_WRITTEN;
 
 // What an output holds before it is lent.
 const UNTOUCHED: u8 = 165;
@@ -27,62 +22,77 @@ const UNTOUCHED: u8 = 165;
 // ---- parts of a slice; one that is not there is empty
 
 fn part(s: &[u8], at: usize, n: usize) -> &[u8] {
-    if at <= s.len() {
-        if n <= s.len() - at {
-            return &s[at..at + n];
-        }
-    }
-    &s[0..0]
+    s.get(at..at.wrapping_add(n)).unwrap_or(&[])
 }
 
 fn lent(s: &mut [u8], n: usize) -> &mut [u8] {
-    if n <= s.len() {
-        &mut s[0..n]
-    } else {
-        &mut s[0..0]
-    }
+    s.get_mut(..n).unwrap_or(&mut [])
 }
 
-// ---- what an answer is made of; the put functions with a result answer the place after what they put
+// ---- an answer
 
-fn put(out: &mut [u8], at: usize, bytes: &[u8]) -> usize {
-    if at <= out.len() {
-        if bytes.len() <= out.len() - at {
-            return buffer::put_bytes(out, at, bytes);
+// The most bytes that a field of a record holds, or an answer.
+const MOST_FIELD: usize = 65536;
+
+// What is put one after another. What has no room is left out.
+#[derive(Drop)]
+struct Answer {
+    bytes: [u8; MOST_FIELD],
+    len: usize,
+}
+
+impl Answer {
+    fn put(&mut self, bytes: &[u8]) {
+        let end = self.len.wrapping_add(bytes.len());
+        if let Some(room) = self.bytes.get_mut(self.len..end) {
+            room.copy_from_slice(bytes);
+            self.len = end;
         }
     }
-    0
-}
 
-fn put_word(out: &mut [u8], at: usize, value: u32) {
-    words::write_u32_be(out, at, value);
-}
+    fn put_word(&mut self, word: u32) {
+        self.put(&word.to_be_bytes());
+    }
 
-fn put_two(out: &mut [u8], at: usize, first: u32, second: u32) -> usize {
-    put_word(&mut *out, at, first);
-    put_word(out, wrapping_add_usize(at, 4), second);
-    wrapping_add_usize(at, 8)
-}
+    fn put_words(&mut self, words: &[u32]) {
+        for word in words {
+            self.put_word(*word);
+        }
+    }
 
-fn put_digest(out: &mut [u8], at: usize, bytes: &[u8]) -> usize {
-    let digest = md5_digest::compute_md5(bytes);
-    put(out, at, &digest)
-}
+    fn put_signed(&mut self, numbers: &[i32]) {
+        for number in numbers {
+            self.put(&number.to_be_bytes());
+        }
+    }
 
-// A number, and the MD5 of bytes.
-fn put_number_and_digest(out: &mut [u8], at: usize, number: usize, bytes: &[u8]) -> usize {
-    put_word(&mut *out, at, (number % 4294967296) as u32);
-    put_digest(out, wrapping_add_usize(at, 4), bytes)
-}
+    fn put_floats(&mut self, floats: &[f32]) {
+        for x in floats {
+            self.put_word(numbers::f32_to_bits(*x));
+        }
+    }
 
-// A status, and the nine numbers of a matrix, row by row.
-fn put_matrix(out: &mut [u8], start: usize, status: u32, m: [[f32; 3]; 3]) {
-    let numbers = icc_matrix::rows(m);
-    put_word(&mut *out, start, status);
-    let mut at = start;
-    for i in 0..9 {
-        at = wrapping_add_usize(at, 4);
-        put_word(&mut *out, at, numbers::f32_to_bits(numbers[i]));
+    fn put_digest(&mut self, bytes: &[u8]) {
+        self.put(&md5_digest::compute_md5(bytes));
+    }
+
+    fn put_number_and_digest(&mut self, number: usize, bytes: &[u8]) {
+        self.put_word((number % 0x1_0000_0000) as u32);
+        self.put_digest(bytes);
+    }
+
+    // A status, and the nine numbers of a matrix, row by row; they are zero where it is refused.
+    fn put_matrix(&mut self, matrix: Result<[[f32; 3]; 3], Refusal>) {
+        match matrix {
+            Ok(m) => {
+                self.put_word(0);
+                self.put_floats(&icc_matrix::rows(m));
+            }
+            Err(refusal) => {
+                self.put_word(refusal.number());
+                self.put_words(&[0; 9]);
+            }
+        }
     }
 }
 
@@ -92,38 +102,36 @@ fn float(input: &[u8], at: usize) -> f32 {
     numbers::f32_from_bits(read_u32_be(input, at))
 }
 
+fn white(input: &[u8]) -> WhiteXy {
+    WhiteXy {
+        wx: float(input, 0),
+        wy: float(input, 4),
+    }
+}
+
 // f: a float; 0 and its fixed number, or 1 where it is out of range.
-fn fixed(input: &[u8], out: &mut [u8]) -> usize {
+fn fixed(input: &[u8], answer: &mut Answer) {
     match numbers::to_s15_fixed_16(float(input, 0)) {
-        S15Fixed16::Number {
-            number: value,
-            whole: _,
-        } => put_two(out, 0, 0, numbers::i32_to_bits(value)),
-        S15Fixed16::OutOfRange => put_two(out, 0, 1, 0),
+        Some(fixed) => answer.put_signed(&[0, fixed.number]),
+        None => answer.put_words(&[1, 0]),
     }
 }
 
 // n: an f64; the f32 that it narrows to.
-fn narrowed(input: &[u8], out: &mut [u8]) -> usize {
-    let bits = read_u32_be(input, 0) as u64 * 4294967296 + read_u32_be(input, 4) as u64;
-    let narrow = floats::f64_to_f32(numbers::f64_from_bits(bits));
-    put_word(out, 0, numbers::f32_to_bits(narrow));
-    4
+fn narrowed(input: &[u8], answer: &mut Answer) {
+    let bits = u64::from(read_u32_be(input, 0)) << 32 | u64::from(read_u32_be(input, 4));
+    answer.put_floats(&[floats::f64_to_f32(numbers::f64_from_bits(bits))]);
 }
 
 // t: a float; its text of seven decimals.
-fn decimals(input: &[u8], out: &mut [u8]) -> usize {
+fn decimals(input: &[u8], answer: &mut Answer) {
     let text = decimal::seven_decimals(float(input, 0));
-    let bytes = text.bytes;
-    put(out, 0, part(&bytes, 0, text.len))
+    answer.put(part(&text.bytes, 0, text.len));
 }
 
-// c: a white and primaries; the adaptation to D50 and the RGB matrix. A matrix that is refused stays zero.
-fn columns(input: &[u8], out: &mut [u8]) -> usize {
-    let white = WhiteXy {
-        wx: float(input, 0),
-        wy: float(input, 4),
-    };
+// c: a white and primaries; the adaptation to D50 and the RGB matrix.
+fn columns(input: &[u8], answer: &mut Answer) {
+    let white = white(input);
     let primaries = PrimariesXy {
         rx: float(input, 8),
         ry: float(input, 12),
@@ -132,37 +140,18 @@ fn columns(input: &[u8], out: &mut [u8]) -> usize {
         bx: float(input, 24),
         by: float(input, 28),
     };
-    let mut chad = [[0.0f32; 3]; 3];
-    let adapted = match adaptation::chad_matrix(white, &mut chad) {
-        Adaptation::Adapted => 0,
-        Adaptation::InvalidWhitePoint => 4,
-    };
-    let mut rgb = [[0.0f32; 3]; 3];
-    let converted = match colorimetry::create_icc_rgb_matrix(primaries, white, &mut rgb) {
-        Conversion::Converted => 0,
-        Conversion::InvalidWhitePoint => 4,
-        Conversion::MatrixInversionFailed => 6,
-    };
-    put_matrix(&mut *out, 0, adapted, chad);
-    put_matrix(out, 40, converted, rgb);
-    80
+    answer.put_matrix(adaptation::chad_matrix(white));
+    answer.put_matrix(colorimetry::create_icc_rgb_matrix(primaries, white));
 }
 
 // g: a gray white; 0 and its XYZ, or 3.
-fn gray_white(input: &[u8], out: &mut [u8]) -> usize {
-    let white = WhiteXy {
-        wx: float(input, 0),
-        wy: float(input, 4),
-    };
-    match white_point::cie_xyz_from_white_cie_xy(white) {
-        WhiteXyz::Xyz { x, y, z } => {
-            put_two(&mut *out, 0, 0, numbers::f32_to_bits(x));
-            put_two(out, 8, numbers::f32_to_bits(y), numbers::f32_to_bits(z))
+fn gray_white(input: &[u8], answer: &mut Answer) {
+    match white_point::cie_xyz_from_white_cie_xy(white(input)) {
+        Ok(xyz) => {
+            answer.put_word(0);
+            answer.put_floats(&xyz);
         }
-        WhiteXyz::InvalidWhitePointY => {
-            put_word(out, 0, 3);
-            4
-        }
+        Err(refusal) => answer.put_word(refusal.number()),
     }
 }
 
@@ -184,387 +173,338 @@ fn finds(file: &[u8], line: &[u8]) -> bool {
 // Whether the finder finds each element of the tag table, and nothing for `mluc`, which begins an element and is no tag.
 fn finds_all(file: &[u8]) -> bool {
     let tags = (read_u32_be(file, 128) % 1000) as usize;
-    for i in 0..tags {
-        if !finds(file, part(file, 132 + 12 * i, 12)) {
-            return false;
-        }
-    }
-    let absent = reader::find(file, [b'm', b'l', b'u', b'c']);
-    absent.len() == 0
+    (0..tags).all(|i| finds(file, part(file, 132 + 12 * i, 12)))
+        && reader::find(file, *b"mluc").is_empty()
 }
 
-// The single numbers of the reader's answer.
-fn single_numbers(r: Reading) -> [u32; 9] {
-    [
-        r.refusal,
-        r.kind,
-        r.intent,
-        r.curve,
-        numbers::i32_to_bits(r.gamma),
-        r.cicp,
-        numbers::i32_to_bits(r.white_x),
-        numbers::i32_to_bits(r.white_z),
-        (r.letters % 65536) as u32,
-    ]
-}
-
-fn put_three(out: &mut [u8], i: usize, single: u32, chad: u32, column: u32)
-    requires { i ≤ 8 }
-{
-    put_word(&mut *out, 4 * i, single);
-    put_word(&mut *out, 36 + 4 * i, chad);
-    put_word(out, 72 + 4 * i, column);
-}
-
-fn put_plan(out: &mut [u8], single: [u32; 9], chad: [i32; 9], columns: [i32; 9]) {
-    for i in 0..9 {
-        let column = numbers::i32_to_bits(columns[i]);
-        put_three(
-            &mut *out,
-            i,
-            single[i],
-            numbers::i32_to_bits(chad[i]),
-            column,
-        );
-    }
-}
-
-// Maker and model, and the two marks.
-fn put_marks(out: &mut [u8], r: Reading) {
-    put_word(&mut *out, 108, r.maker);
-    put_word(&mut *out, 112, r.model);
-    put_word(&mut *out, 116, r.id_not_computed);
-    put_word(out, 120, r.adapted);
+fn put_reading(r: Reading, answer: &mut Answer) {
+    answer.put_words(&[0, r.kind, r.intent, r.curve]);
+    answer.put_signed(&[r.gamma]);
+    answer.put_word(r.cicp);
+    answer.put_signed(&[r.white_x, r.white_z]);
+    answer.put_word((r.letters % 65536) as u32);
+    answer.put_signed(&r.chad);
+    answer.put_signed(&r.columns);
+    answer.put_words(&[r.maker, r.model, r.id_not_computed, r.adapted]);
+    answer.put(part(&r.text, 0, r.letters));
 }
 
 // r: a file; the reader's answer. The elements of an accepted file are found; of a refused one none is.
-fn reading(file: &[u8], out: &mut [u8]) -> usize {
-    let r = reader::read(file);
-    let text = r.text;
-    put_marks(&mut *out, r);
-    let end = put(&mut *out, 124, part(&text, 0, r.letters));
-    let chad = r.chad;
-    let columns = r.columns;
-    put_plan(out, single_numbers(r), chad, columns);
-    let found = if r.refusal == 0 {
-        finds_all(file)
-    } else {
-        let none = reader::find(file, [b'd', b'e', b's', b'c']);
-        none.len() == 0
-    };
-    if found { end } else { 0 }
+fn reading(file: &[u8], answer: &mut Answer) -> bool {
+    match reader::read(file) {
+        Ok(r) => {
+            put_reading(r, answer);
+            finds_all(file)
+        }
+        Err(refusal) => {
+            answer.put_word(refusal.number());
+            answer.put_words(&[0; 30]);
+            reader::find(file, *b"desc").is_empty()
+        }
+    }
 }
 
 // ---- the writer
 
 // The length and the MD5 of the text.
-fn put_text(out: &mut [u8], at: usize, e: JxlColorEncoding) -> usize {
+fn put_text(e: JxlColorEncoding, answer: &mut Answer) {
     let text = text::get_color_encoding_description(e);
-    let bytes = text.bytes;
-    put_number_and_digest(out, at, text.len, part(&bytes, 0, text.len))
+    answer.put_number_and_digest(text.len, part(&text.bytes, 0, text.len));
 }
 
 // The length or the refusal, the MD5 of the whole output, and the text. What is written is read, and its elements are found.
-fn written(encoding: Encoding, capacity: usize, out: &mut [u8]) -> usize {
+fn written(encoding: Encoding, capacity: usize, answer: &mut Answer) -> bool {
     let mut space = [UNTOUCHED; 1300];
-    let color = encoding.color;
     let number = match writer::maybe_create_profile(encoding, lent(&mut space, capacity)) {
-        Profile::Written {
-            length: n,
-            rounded: _,
-        } => n as usize,
-        Profile::Refused(k) => k as usize,
+        Ok(written) => written.length,
+        Err(refusal) => refusal.number(),
     };
-    let text = put_number_and_digest(&mut *out, 0, number, part(&space, 0, capacity));
-    let end = put_text(out, text, color);
-    if finds_all(part(&space, 0, number)) {
-        end
-    } else {
-        0
-    }
+    answer.put_number_and_digest(number as usize, part(&space, 0, capacity));
+    put_text(encoding.color, answer);
+    finds_all(part(&space, 0, number as usize))
 }
 
 // The section of gray with the mark "adapted", of which no job knows.
 const ADAPTED: u8 = 4;
 
 // e: a section, the length of the output, and the bytes of an entry of that section.
-fn encoding(input: &[u8], out: &mut [u8]) -> usize {
-    let entry = part(input, 5, wrapping_sub_usize(input.len(), 5));
+fn encoding(input: &[u8], answer: &mut Answer) -> bool {
     let section = byte_at(input, 0);
+    let entry = part(input, 5, input.len().wrapping_sub(5));
     let code = match section {
         2 => job_entry::rgb_encoding(entry),
         3 => job_entry::xyb_encoding(entry),
         _ => job_entry::gray_encoding(entry),
     };
-    let EncodingCode::Known(color) = code else {
-        return 0;
+    let Ok(color) = code else {
+        return false;
     };
     let encoding = Encoding {
-        color,
-        maker: 0,
-        model: 0,
         adapted: section == ADAPTED,
+        ..Encoding::from(color)
     };
-    written(encoding, read_u32_be(input, 1) as usize, out)
+    written(encoding, read_u32_be(input, 1) as usize, answer)
 }
 
 // ---- jobs
 
-// An output of a job, its profiles or its listing: the length or the refusal.
-fn output_number(answer: Output) -> usize {
-    match answer {
-        Output::Written(n) => n,
-        Output::Refused(k) => k as usize,
+// The length or the refusal.
+fn output_number(output: Result<usize, Refusal>) -> usize {
+    match output {
+        Ok(n) => n,
+        Err(refusal) => refusal.number() as usize,
     }
 }
 
-fn output(profiles: bool, job: &[u8], space: &mut [u8]) -> usize {
-    if profiles {
-        output_number(job_output::profiles(job, space))
-    } else {
-        output_number(job_output::listing(job, space))
-    }
-}
-
-// The answer for a space that is one byte too short, and the MD5 of that space; then the same for one of the right length.
-fn put_output(out: &mut [u8], at: usize, profiles: bool, job: &[u8], space: &mut [u8]) -> usize {
+// An output of a job, its profiles or its listing: the answer for a space that is one byte too short, and the MD5 of that space; then the same for one
+// of the right length.
+fn put_output<F: Fn(&mut [u8]) -> Result<usize, Refusal>>(
+    write: F,
+    space: &mut [u8],
+    answer: &mut Answer,
+)
+    requires { F.IsAlwaysCallable write }
+{
     let n = space.len();
-    let short = lent(&mut *space, wrapping_sub_usize(n, 1));
-    let refused = output(profiles, job, &mut *short);
-    let next = put_number_and_digest(&mut *out, at, refused, short);
-    let length = output(profiles, job, &mut *space);
-    put_number_and_digest(out, next, length, space)
+    let short = lent(&mut *space, n.wrapping_sub(1));
+    let refused = output_number(write(&mut *short));
+    answer.put_number_and_digest(refused, short);
+    let length = output_number(write(&mut *space));
+    answer.put_number_and_digest(length, space);
 }
 
-// The length or the refusal of an entry's profile, 0 where there is no such entry.
-fn profile_number(answer: JobProfile) -> u32 {
-    match answer {
-        JobProfile::Written(n) => n,
-        JobProfile::Absent => 0,
-        JobProfile::Refused(k) => k,
-    }
-}
-
-// The i-th entry by itself. Answers the length of its profile, if this is what stands at `done` in all.
-fn put_entry(out: &mut [u8], at: usize, job: &[u8], i: usize, all: &[u8], done: usize) -> usize {
+// The i-th entry by itself: the length or the refusal of its profile, 0 where there is no such entry. Its profile must be what the profiles of the whole
+// job go on with; answers what they have behind it.
+fn put_entry<'a>(
+    job: &[u8],
+    i: usize,
+    profiles: &'a [u8],
+    answer: &mut Answer,
+) -> Option<&'a [u8]> {
     let mut space = [UNTOUCHED; MAX_WRITTEN];
-    let number = profile_number(job_output::profile(job, i, &mut space));
-    put_word(out, at, number);
-    let n = number as usize;
-    if same_bytes(part(&space, 0, n), part(all, done, n)) {
-        n
-    } else {
-        0
+    match job_output::profile(job, i, &mut space) {
+        Ok(Some(n)) => {
+            answer.put_word(n);
+            profiles.strip_prefix(part(&space, 0, n as usize))
+        }
+        Ok(None) => {
+            answer.put_word(0);
+            Some(profiles)
+        }
+        Err(refusal) => {
+            answer.put_word(refusal.number());
+            Some(profiles)
+        }
     }
 }
 
-// The entries of a job and one past the last; 0 where all does not hold their profiles.
-fn put_entries(out: &mut [u8], start: usize, job: &[u8], entries: u32, all: &[u8]) -> usize {
-    let n = entries as usize + 1;
-    let mut at = start;
-    let mut done = 0usize;
-    for i in 0..n {
-        done = wrapping_add_usize(done, put_entry(&mut *out, at, job, i, all, done));
-        at = wrapping_add_usize(at, 4);
+// The entries of a job and one past the last. Whether all of its profiles are theirs.
+fn put_entries(job: &[u8], entries: u32, profiles: &[u8], answer: &mut Answer) -> bool {
+    let mut rest = profiles;
+    for i in 0..entries as usize + 1 {
+        let Some(behind) = put_entry(job, i, rest, answer) else {
+            return false;
+        };
+        rest = behind;
     }
-    if done == all.len() { at } else { 0 }
+    rest.is_empty()
 }
 
-fn put_listing(out: &mut [u8], at: usize, job: &[u8]) -> usize {
+fn put_listing(job: &[u8], answer: &mut Answer) {
     let mut space = [UNTOUCHED; MOST_LISTING];
     let n = job_output::listing_length(job);
-    let next = put_output(&mut *out, at, false, job, lent(&mut space, n));
-    put(out, next, part(&space, 0, n))
-}
-
-// The refusal or 0, and the number of entries.
-fn job_words(answer: JobAnswer) -> [u32; 2] {
-    match answer {
-        JobAnswer::Entries(n) => [0, n],
-        JobAnswer::Refused(k) => [k, 0],
-    }
+    put_output(
+        |space| job_output::listing(job, space),
+        lent(&mut space, n),
+        answer,
+    );
+    answer.put(part(&space, 0, n));
 }
 
 // j: a job; its refusal and the number of its entries, its profiles, its entries one by one, its listing.
-fn job(job: &[u8], out: &mut [u8]) -> usize {
-    let first = job_words(job::entries(job));
-    let profiles = put_two(&mut *out, 0, first[0], first[1]);
+fn job(job: &[u8], answer: &mut Answer) -> bool {
+    let entries = match job::entries(job) {
+        Ok(n) => {
+            answer.put_words(&[0, n]);
+            n
+        }
+        Err(refusal) => {
+            answer.put_words(&[refusal.number(), 0]);
+            0
+        }
+    };
     let mut space = room();
     let n = job_output::profiles_length(job);
-    let entries = put_output(&mut *out, profiles, true, job, lent(&mut space, n));
-    let listing = put_entries(&mut *out, entries, job, first[1], part(&space, 0, n));
-    put_listing(out, listing, job)
+    put_output(
+        |space| job_output::profiles(job, space),
+        lent(&mut space, n),
+        answer,
+    );
+    let theirs = put_entries(job, entries, part(&space, 0, n), answer);
+    put_listing(job, answer);
+    theirs
 }
 
 // ---- the list
 
-// What a hexadecimal digit counts; 16 for any other letter.
-fn digit(b: u8) -> u8 {
+// What a hexadecimal digit counts.
+fn digit(b: u8) -> Option<u8> {
     match b {
-        b'0'..=b'9' => b - b'0',
-        b'a'..=b'f' => b - b'a' + 10,
-        _ => 16,
+        b'0'..=b'9' => Some(b - b'0'),
+        b'a'..=b'f' => Some(b - b'a' + 10),
+        _ => None,
     }
 }
 
-// A record: how many bytes its input and its answer have, and where the next line begins; 0 where the line is malformed or has no end.
-#[derive(Clone, Copy)]
-struct Record {
-    input: usize,
-    answer: usize,
-    next: usize,
-}
-
-// From the numbers of digits. A digit too many counts as a byte, which no answer has.
-fn measured(input: usize, all: usize, next: usize) -> Record {
-    Record {
-        input: input / 2,
-        answer: wrapping_add_usize(wrapping_sub_usize(all, input), 1) / 2,
-        next,
-    }
-}
-
-// A byte takes its two digits one after the other.
-fn put_digit(bytes: &mut [u8], n: usize, d: u8) {
-    let at = n / 2;
-    if at < bytes.len() {
-        bytes[at] = bytes[at] % 16 * 16 | d;
-    }
-}
-
-// Decodes the fields of a line, from a place past its letter on.
-fn record_at(list: &[u8], start: usize, bytes: &mut [u8]) -> Record {
-    let mut at = start;
+// The bytes of a field, of two digits each, with spaces around them, put into a space. None where it is malformed.
+fn decoded<'a>(field: &[u8], space: &'a mut [u8]) -> Option<&'a [u8]> {
     let mut n = 0usize;
-    let mut input = 0usize;
-    while at < list.len() {
-        let letter = list[at];
-        at += 1;
-        let d = digit(letter);
-        if d < 16 {
-            put_digit(&mut *bytes, n, d);
-            n = wrapping_add_usize(n, 1);
-        } else if letter == b'\n' {
-            return measured(input, n, at);
-        } else if letter == b'=' {
-            input = n;
-        } else if letter != b' ' {
-            return measured(0, 0, 0);
+    for letter in field {
+        if *letter != b' ' {
+            let byte = space.get_mut(n / 2)?;
+            *byte = *byte % 16 * 16 | digit(*letter)?;
+            n = n.wrapping_add(1);
         }
     }
-    measured(0, 0, 0)
+    if n % 2 != 0 {
+        return None;
+    }
+    space.get(..n / 2)
 }
 
-// The answer of the crates to an input: how many bytes it has, or 0 where a check of the program fails.
-fn answer(letter: u8, input: &[u8], out: &mut [u8]) -> usize {
+// The answer of the crates to an input. Whether each check of the program passes.
+fn put_answer(letter: u8, input: &[u8], answer: &mut Answer) -> bool {
     match letter {
-        b'e' => encoding(input, out),
-        b'r' => reading(input, out),
-        b'j' => job(input, out),
-        _ => leaf(letter, input, out),
+        b'e' => encoding(input, answer),
+        b'r' => reading(input, answer),
+        b'j' => job(input, answer),
+        _ => {
+            put_leaf(letter, input, answer);
+            true
+        }
     }
 }
 
-fn leaf(letter: u8, input: &[u8], out: &mut [u8]) -> usize {
+fn put_leaf(letter: u8, input: &[u8], answer: &mut Answer) {
     match letter {
-        b'm' | b'b' => put_digest(out, 0, input),
-        b'f' => fixed(input, out),
-        b'n' => narrowed(input, out),
-        b't' => decimals(input, out),
-        b'c' => columns(input, out),
-        b'g' => gray_white(input, out),
-        _ => 0,
+        b'm' | b'b' => answer.put_digest(input),
+        b'f' => fixed(input, answer),
+        b'n' => narrowed(input, answer),
+        b't' => decimals(input, answer),
+        b'c' => columns(input, answer),
+        b'g' => gray_white(input, answer),
+        _ => {}
     }
 }
 
 // ---- counting
 
-// The places of a tally: a letter for how many records of the type were tried, its capital for how many matched; a refusal for how often it was the
-// answer of a matched record; DIFFERS for the first line that differs.
-const PLACES: usize = 256;
+// By the letter of a type, how many records were tried and how many matched; how often a refusal was the answer of one that matched; and the first line
+// that differs, or 0.
+#[derive(Drop)]
+struct Tally {
+    tried: [u64; 256],
+    matched: [u64; 256],
+    refused: [u64; 256],
+    differs: u64,
+}
 
-const DIFFERS: u8 = 255;
-
-const FIRST: usize = 255;
-
-fn mark(tally: &mut [u64; PLACES], at: u8) {
+fn mark(counts: &mut [u64; 256], at: u8) {
     let place = at as usize;
-    tally[place] = wrapping_add_u64(tally[place], 1);
+    counts[place] = counts[place].wrapping_add(1);
 }
 
 // The refusal with which an answer of writer, reader or job begins, or 0.
 fn refusal(letter: u8, number: u32) -> u8 {
     match letter {
-        b'e' | b'r' | b'j' => { if number < 44 { number as u8 } else { 0 } }
+        b'e' | b'r' | b'j' if number < 44 => number as u8,
         _ => 0,
     }
 }
 
-// The refusal of a record that matches, or DIFFERS.
-fn outcome(letter: u8, bytes: &[u8], r: Record, out: &mut [u8]) -> u8 {
-    let n = answer(letter, part(bytes, 0, r.input), &mut *out);
-    if n != 0 && same_bytes(part(out, 0, n), part(bytes, r.input, r.answer)) {
-        refusal(letter, read_u32_be(out, 0))
+// The room for a record's input, for the answer that is due, and for that of the crates.
+#[derive(Drop)]
+struct Rooms {
+    input: [u8; MOST_FIELD],
+    due: [u8; MOST_FIELD],
+    answer: Answer,
+}
+
+// The refusal of a record that matches, by the fields behind its letter.
+fn outcome(letter: u8, fields: &[u8], rooms: &mut Rooms) -> Option<u8> {
+    let equals = fields.iter().position(|b| *b == b'=')?;
+    let input = decoded(part(fields, 0, equals), &mut rooms.input)?;
+    let due = decoded(fields.get(equals..)?.get(1..)?, &mut rooms.due)?;
+    rooms.answer.len = 0;
+    let passed = put_answer(letter, input, &mut rooms.answer);
+    let answer = part(&rooms.answer.bytes, 0, rooms.answer.len);
+    if passed && !answer.is_empty() && same_bytes(answer, due) {
+        Some(refusal(letter, read_u32_be(answer, 0)))
     } else {
-        DIFFERS
+        None
     }
 }
 
-fn count(tally: &mut [u64; PLACES], letter: u8, outcome: u8, line: u64) {
-    mark(&mut *tally, letter);
-    if outcome != DIFFERS {
-        mark(&mut *tally, letter % 32 + 64);
-        mark(tally, outcome);
-    } else if tally[FIRST] == 0 {
-        tally[FIRST] = line;
-    }
-}
-
-// The most bytes that the fields of a record hold together, or an answer.
-const MOST_FIELD: usize = 65536;
-
-// Goes over the records of a list, which begin at `start`, in line 2.
-fn replay(list: &[u8], start: usize, tally: &mut [u64; PLACES]) {
-    let mut bytes = [0u8; MOST_FIELD];
-    let mut out = [0u8; MOST_FIELD];
-    let mut at = start;
-    let mut line = 1u64;
-    while at < list.len() {
-        line = wrapping_add_u64(line, 1);
-        let letter = list[at];
-        let r = record_at(list, at + 1, &mut bytes);
-        count(
-            &mut *tally,
-            letter,
-            outcome(letter, &bytes, r, &mut out),
-            line,
-        );
-        if r.next <= at {
-            return;
+fn count(tally: &mut Tally, letter: u8, outcome: Option<u8>, line: u64) {
+    mark(&mut tally.tried, letter);
+    match outcome {
+        Some(refusal) => {
+            mark(&mut tally.matched, letter);
+            mark(&mut tally.refused, refusal);
         }
-        at = r.next;
+        None if tally.differs == 0 => tally.differs = line,
+        None => {}
+    }
+}
+
+// Goes over the records of a list, a line each, which begin in line 2.
+fn replay(records: &[u8], tally: &mut Tally) {
+    let mut rooms = Rooms {
+        input: [0; MOST_FIELD],
+        due: [0; MOST_FIELD],
+        answer: Answer {
+            bytes: [0; MOST_FIELD],
+            len: 0,
+        },
+    };
+    let mut line = 1u64;
+    for record in records.split(|b| *b == b'\n') {
+        line = line.wrapping_add(1);
+        if let Some((letter, fields)) = record.split_first() {
+            count(
+                &mut *tally,
+                *letter,
+                outcome(*letter, fields, &mut rooms),
+                line,
+            );
+        }
     }
 }
 
 // ---- the program
 
-// A byte of a text. One after a # names a place of the tally, whose number is printed for both.
-fn print_byte<R: Print>(rt: &R, text: &[u8], i: usize, tally: &[u64; PLACES]) -> io::Result<()> {
-    let b = byte_at(text, i);
-    if byte_at(text, wrapping_sub_usize(i, 1)) == b'#' {
-        rt.print(tally[b as usize])
-    } else if b != b'#' {
-        rt.write_all(part(text, i, 1))
-    } else {
-        Ok(())
-    }
-}
-
-fn print_tally<R: Print>(rt: &R, text: &[u8], tally: &[u64; PLACES]) -> io::Result<()> {
-    for i in 0..text.len() {
-        print_byte(rt, text, i, tally)?;
+fn print_types<R: Print>(rt: &R, tally: &Tally) -> io::Result<()> {
+    for letter in b"mbfntcgerj" {
+        let place = *letter as usize;
+        let (name, matched, tried) = (
+            char::from(*letter),
+            tally.matched[place],
+            tally.tried[place],
+        );
+        println!(rt; "{name} {matched} of {tried}")?;
     }
     Ok(())
+}
+
+fn print_refused<R: Print>(rt: &R, who: &str, refusals: &[u8], tally: &Tally) -> io::Result<()> {
+    print!(rt; "{who} refused")?;
+    let mut before = " ";
+    for refusal in refusals {
+        let often = tally.refused[*refusal as usize];
+        print!(rt; "{before}{refusal}: {often}")?;
+        before = ", ";
+    }
+    println!(rt; "")
 }
 
 // Space for the list, or for the profiles of a job. The `ensures` gives only the length, so that no proof spells the bytes out.
@@ -576,20 +516,22 @@ fn room() -> [u8; 1650000]
 
 fn main(rt: HostRuntime) -> io::Result<()> {
     let mut space = room();
-    let mut tally = [0u64; PLACES];
+    let mut tally = Tally {
+        tried: [0; 256],
+        matched: [0; 256],
+        refused: [0; 256],
+        differs: 0,
+    };
     let n = streams::read_file(&rt, "list", &mut space);
     let list = part(&space, 0, n);
-    if same_bytes(
-        part(list, 0, 54),
-        b"merqyduk vectors, format 5, seed 1, jxl-rs 9b3c1af91e\n",
-    ) {
-        replay(list, 54, &mut tally);
-    } else {
-        tally[FIRST] = 1;
+    match list.strip_prefix(b"merqyduk vectors, format 5, seed 1, jxl-rs 9b3c1af91e\n") {
+        Some(records) => replay(records, &mut tally),
+        None => tally.differs = 1,
     }
-    print_tally(
-        &rt,
-        b"m #M of #m\nb #B of #b\nf #F of #f\nn #N of #n\nt #T of #t\nc #C of #c\ng #G of #g\ne #E of #e\nr #R of #r\nj #J of #j\nwriter refused 1: #\x01, 3: #\x03, 4: #\x04, 5: #\x05, 6: #\x06, 7: #\x07, 8: #\x08, 9: #\x09\nreader refused 21: #\x15, 22: #\x16, 23: #\x17, 24: #\x18, 25: #\x19, 26: #\x1a, 27: #\x1b, 28: #\x1c\njob refused 41: #\x29, 42: #\x2a, 43: #\x2b\nfirst line that differs #\xff\n",
-        &tally,
-    )
+    print_types(&rt, &tally)?;
+    print_refused(&rt, "writer", &[1, 3, 4, 5, 6, 7, 8, 9], &tally)?;
+    print_refused(&rt, "reader", &[21, 22, 23, 24, 25, 26, 27, 28], &tally)?;
+    print_refused(&rt, "job", &[41, 42, 43], &tally)?;
+    let line = tally.differs;
+    println!(rt; "first line that differs {line}")
 }
