@@ -18,10 +18,11 @@ use Rattle.profile.specs.LayoutLaws.{length-layout}
 use Rattle.encoding_plan.specs.PlanOf.{xyb_plan, color_plan}
 use Rattle.encoding_plan.specs.FixedFloats.{fixed_floats, counted_plan}
 use Rattle.encoding_plan.specs.FixedFloatsLaws.{xyb_count}
-use Rattle.writer.specs.declared.Profile.TheVariants.{Written}
+use Rattle.writer.specs.Writer.{profile}
 use Rattle.job_entry.specs.Entry.{gray_encoding, rgb_encoding, xyb_encoding}
 use Rattle.job.specs.Job.{entries_from, cut, job}
 use Rattle.job.specs.declared.JobEntry.{JobEntry}
+use Rattle.job.specs.declared.Section.TheVariants.{Rgb, Xyb}
 use Rattle.entry_output.specs.EntryOutput.{enough, first_line, entry_line}
 use Rattle.job_output.specs.JobOutput.{output_of, listing}
 use Rattle.examples.specs.SheetsLaws.{srgb, srgb_plan, perceptual_plan, srgb_count}
@@ -31,21 +32,21 @@ abbrev job44 : List ℕ
 job44 = 0 ∷ 1 ∷ (zeros 9 ++ (zeros 25 ++ ((2 ∷ zeros 4) ++ (0 ∷ 1 ∷ 1 ∷ []))))
 
 abbrev entries44 : List JobEntry
-entries44 = record { section = 2; place = 1; encoding = srgb Perceptual } ∷ record { section = 3; place = 1; encoding = XYB Relative } ∷ []
+entries44 = record { section = Rgb; place = 1; encoding = srgb Perceptual } ∷ record { section = Xyb; place = 1; encoding = XYB Relative } ∷ []
 
 pub job_44 : job 1 job44 ≡ is entries44
 unfolding job cut entries_from gray_encoding rgb_encoding xyb_encoding word32
 job_44 = refl
 
-first : enough (counted_plan (srgb Perceptual)) ≡ Written 504 24
+first : enough (counted_plan (srgb Perceptual)) ≡ profile 504 24
 unfolding slots_of file_length start body_size tag_count padding
 first =
     ap (λ (p : Checked Plan). enough (counted (fixed_floats (srgb Perceptual)) p)) perceptual_plan
-    ∙ ap₂ Written (length-layout (srgb_plan 0 (ascii "sRGB")) (refl, refl)) (srgb_count Perceptual)
+    ∙ ap₂ profile (length-layout (srgb_plan 0 (ascii "sRGB")) (refl, refl)) (srgb_count Perceptual)
 
-second : enough (counted_plan (XYB Relative)) ≡ Written 720 30
+second : enough (counted_plan (XYB Relative)) ≡ profile 720 30
 unfolding color_plan slots_of file_length start body_size tag_count padding
-second = ap₂ Written (length-layout (xyb_plan Relative) tt) (xyb_count false Relative)
+second = ap₂ profile (length-layout (xyb_plan Relative) tt) (xyb_count false Relative)
 
 pub listing_44 : listing (job 1 job44) ≡ ascii "profiles 2" ++ (10 ∷ ascii "2 1 504") ++ (10 ∷ ascii "3 1 720") ++ (10 ∷ [])
 unfolding output_of first_line entry_line join digits digits_up_to size

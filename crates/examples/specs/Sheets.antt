@@ -1,15 +1,14 @@
 -- The sheets of 01 that are to be proved ("Sheets to try", marked with a star), and those that later orders of 02 name: one table of cases with what each must give,
 -- and one theorem over it.
 -- Assumes nothing.
-use Rattle.std.specs.Prelude.{ℕ, ◌≡◌, true, false, List, [], ◌∷◌, pos, negsuc}
+use Rattle.std.specs.Prelude.{Option, None, ℕ, ◌≡◌, true, false, List, [], ◌∷◌, pos, negsuc}
 use Prim.Native.String.{String}
 use Rattle.std.specs.Float.{binary32}
 use Rattle.std.specs.Float.Ieee.{of_bits}
 use Rattle.buffer.specs.All.{All, none, more}
 use Rattle.buffer.specs.Ascii.{ascii}
-use Rattle.numbers.specs.Fixed.{s15_fixed16}
+use Rattle.numbers.specs.Fixed.{some_number, s15_fixed16}
 use Rattle.numbers.specs.declared.fixed.S15Fixed16.{S15Fixed16}
-use Rattle.numbers.specs.declared.fixed.S15Fixed16.TheVariants.{Number, OutOfRange}
 use Rattle.color_encoding.specs.declared.RenderingIntent.TheVariants.{Perceptual, Relative, Saturation, Absolute}
 use Rattle.color_encoding.specs.declared.JxlColorEncoding.{JxlColorEncoding}
 use Rattle.color_encoding.specs.declared.JxlWhitePoint.TheVariants as W
@@ -19,13 +18,12 @@ use Rattle.color_encoding.specs.declared.JxlColorEncoding.TheVariants.{RgbColorS
 use Rattle.decimal.specs.Seven.{seven_decimals}
 use Rattle.text.specs.Description.{description}
 use Rattle.encoding_plan.specs.FixedFloats.{counted_color_plan, counted_plan}
-use Rattle.writer.specs.Writer.{answer}
-use Rattle.writer.specs.declared.Profile.TheVariants.{Written}
+use Rattle.writer.specs.Writer.{profile, answer}
 use Rattle.examples.specs.SheetsLaws as Laws
 
 pub data Sheet : Type 0 where
   -- the f32 of these bits has this fixed number, exact or not, or none
-  fixed : ℕ → S15Fixed16 → Sheet
+  fixed : ℕ → Option S15Fixed16 → Sheet
   -- it prints so
   prints : ℕ → String → Sheet
   -- the encoding has this text
@@ -39,21 +37,21 @@ abbrev pub Holds : Sheet → Type 0
 Holds (fixed x n) = s15_fixed16 (of_bits binary32 x) ≡ n
 Holds (prints x s) = seven_decimals (of_bits binary32 x) ≡ ascii s
 Holds (text e s) = description e ≡ ascii s
-Holds (bytes e n k) = answer (counted_plan e) n ≡ Written n k
-Holds (adapted_bytes e n k) = answer (counted_color_plan true e) n ≡ Written n k
+Holds (bytes e n k) = answer (counted_plan e) n ≡ profile n k
+Holds (adapted_bytes e n k) = answer (counted_color_plan true e) n ≡ profile n k
 
 abbrev pub table : List Sheet
 table =
     -- 1.0
-    fixed 0x3f80_0000 (Number (pos 65536) true)
+    fixed 0x3f80_0000 (some_number (pos 65536) true)
     -- 32767.994140625, and the next f32 up
-    ∷ fixed 0x46ff_fffd (Number (pos 2147483264) true)
-    ∷ fixed 0x46ff_fffe OutOfRange
+    ∷ fixed 0x46ff_fffd (some_number (pos 2147483264) true)
+    ∷ fixed 0x46ff_fffe None
     -- two to the -17, and negated: halves go away from zero
-    ∷ fixed 0x3700_0000 (Number (pos 1) false)
-    ∷ fixed 0xb700_0000 (Number (negsuc 0) false)
+    ∷ fixed 0x3700_0000 (some_number (pos 1) false)
+    ∷ fixed 0xb700_0000 (some_number (negsuc 0) false)
     -- 2.4
-    ∷ fixed 0x4019_999a (Number (pos 157286) false)
+    ∷ fixed 0x4019_999a (some_number (pos 157286) false)
     -- 1/256 and 3/256: ties go to the even digit
     ∷ prints 0x3b80_0000 "0.0039062"
     ∷ prints 0x3c40_0000 "0.0117188"
