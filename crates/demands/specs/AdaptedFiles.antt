@@ -7,7 +7,8 @@ use Rattle.color_encoding.specs.declared.JxlWhitePoint.{JxlWhitePoint}
 use Rattle.color_encoding.specs.declared.JxlTransferFunction.{JxlTransferFunction}
 use Rattle.color_encoding.specs.declared.JxlColorEncoding.TheVariants.{GrayscaleColorSpace}
 use Rattle.text.specs.Description.{description}
-use Rattle.profile.specs.Plan.{Plan, adapted, gray}
+use Rattle.profile.specs.Plan.{Plan, gray}
+use Rattle.profile.specs.declared.GrayWhite.TheVariants.{Adapted as adapted}
 use Rattle.profile.specs.declared.Curve.{Curve}
 use Rattle.encoding_plan.specs.PlanOf.{chad_numbers}
 use Rattle.encoding_plan.specs.EncodingPlan.{encoding_as}

@@ -4,7 +4,7 @@
 -- 384 bytes of gray D65 Relative SRGB in `sheets` of examples.) Assumes nothing.
 use Rattle.std.specs.Prelude.{ℕ, ◌≤◌, ◌<◌, ◌≡◌, ◌↔◌, ◌⊎◌, Bool, true, false, cond, List, [], ◌∷◌, take, ℤ, pos}
 use Rattle.buffer.specs.Ascii.{ascii}
-use Rattle.buffer.specs.Checked.{Checked, is}
+use Rattle.buffer.specs.Checked.{Checked, is, refused}
 use Rattle.color_encoding.specs.Coordinates.{white_xy}
 use Rattle.color_encoding.specs.declared.RenderingIntent.{RenderingIntent}
 use Rattle.color_encoding.specs.declared.JxlWhitePoint.{JxlWhitePoint}
@@ -13,7 +13,8 @@ use Rattle.color_encoding.specs.declared.JxlTransferFunction.{JxlTransferFunctio
 use Rattle.color_encoding.specs.declared.JxlColorEncoding.{JxlColorEncoding}
 use Rattle.color_encoding.specs.declared.JxlColorEncoding.TheVariants.{RgbColorSpace, GrayscaleColorSpace, XYB}
 use Rattle.profile.specs.Signatures as Sig
-use Rattle.profile.specs.Plan.{Plan, GrayContent, unadapted, adapted, gray}
+use Rattle.profile.specs.Plan.{Plan, GrayContent, gray}
+use Rattle.profile.specs.declared.GrayWhite.TheVariants.{Unadapted as unadapted, Adapted as adapted}
 use Rattle.profile.specs.Elements.{tag_count}
 use Rattle.profile.specs.Shape.{is_adapted}
 use Rattle.profile.specs.TagTypes.{mluc, xyz, sf32, curve}
@@ -24,8 +25,7 @@ use Rattle.encoding_plan.specs.PlanOf.{chad_numbers, color_plan}
 use Rattle.encoding_plan.specs.FixedFloats.{color_floats}
 use Rattle.encoding_plan.specs.EncodingPlan.{encoding_as, encoding_plan, counted_encoding_plan}
 use Rattle.text.specs.Held.{HeldEncoding}
-use Rattle.writer.specs.Writer.{answer, max_written, Creates}
-use Rattle.writer.specs.declared.Profile.TheVariants.{Written, Refused}
+use Rattle.writer.specs.Writer.{profile, answer, max_written, Creates}
 use Rattle.writer_laws.specs.RefusalList.{Ok1, Ok4, Ok5, Ok8, Ok9}
 use Rattle.reader_spec.specs.Finder.{find}
 use Rattle.reading.specs.declared.Reading.{Reading}
@@ -51,23 +51,24 @@ module _ (w : JxlWhitePoint) (t : JxlTransferFunction) (i : RenderingIntent) (ma
   pub with_enough_output : HeldEncoding e → (n : ℕ) → max_written ≤ n → Succeeds (marked w t i maker model) n ↔ (Ok1 e × Ok4 true e × Ok5 true e × Ok8 e)
   with_enough_output held n enough = (λ s. ((succeeds_exactly_if n).0 s).0, λ o. (succeeds_exactly_if n).1 (o, enough_output true e held n enough))
 
-  pub refused_by : (n k : ℕ) → answer (counted_encoding_plan (marked w t i maker model)) n ≡ Refused k → (k ≡ 1) ⊎ ((k ≡ 4) ⊎ ((k ≡ 5) ⊎ ((k ≡ 8) ⊎ (k ≡ 9))))
+  pub refused_by : (n k : ℕ) → answer (counted_encoding_plan (marked w t i maker model)) n ≡ refused k → (k ≡ 1) ⊎ ((k ≡ 4) ⊎ ((k ≡ 5) ⊎ ((k ≡ 8) ⊎ (k ≡ 9))))
   refused_by n k h = Laws.refused_by w t i maker model n k h
 
   -- ---- running code: `maybe_create_profile` ensures `Creates`
 
-  module _ {n k : ℕ} (before after : List ℕ) (c : Creates (marked w t i maker model) before after (Written n k)) where
+  module _ {n k : ℕ} (before after : List ℕ) (c : Creates (marked w t i maker model) before after (profile n k)) where
     -- the finder finds the white of the PCS, and the `chad` of the white
     pub written_elements : (find (take n after) Sig.wtpt ≡ xyz D50) × ((m : List ℤ) → chad_numbers (white_xy w) ≡ is m → find (take n after) Sig.chad ≡ sf32 m)
     written_elements = Laws.written_elements w t i maker model before after c
 
     -- it finds the same `chad` in the profile of an RGB encoding whose white has the same coordinates
     pub same_chad : (a : Bool) (v : JxlWhitePoint) (p : JxlPrimaries) (u : JxlTransferFunction) (j : RenderingIntent) (x y : ℕ) {l o : ℕ} (empty full : List ℕ)
-        → Creates (encoding_as a x y (RgbColorSpace v p u j)) empty full (Written l o) → white_xy v ≡ white_xy w → find (take n after) Sig.chad ≡ find (take l full) Sig.chad
+        → Creates (encoding_as a x y (RgbColorSpace v p u j)) empty full (profile l o) → white_xy v ≡ white_xy w → find (take n after) Sig.chad ≡ find (take l full) Sig.chad
     same_chad a v p u j x y empty full d same = Laws.same_chad w t i maker model before after c a v p u j x y empty full d same
 
     -- the reader answers the mark, and the numbers of `chad` in place of X and Z
-    pub read_back : (r : Reading) → Reads (take n after) r → (r.adapted ≡ 1) × (r.white_x ≡ pos 0) × (r.white_z ≡ pos 0) × (chad_numbers (white_xy w) ≡ is r.chad)
+    pub read_back : (r : Checked Reading) → Reads (take n after) r
+        → (a : Reading) × (r ≡ is a) × (a.adapted ≡ 1) × (a.white_x ≡ pos 0) × (a.white_z ≡ pos 0) × (chad_numbers (white_xy w) ≡ is a.chad)
     read_back r h = Laws.read_back w t i maker model before after c r h
 
 -- ---- the file: `chad` stands behind `wtpt`, and the number of tags tells the mark

@@ -5,7 +5,7 @@ use Rattle.std.proofs.Common.{◌∙◌, subst, inl, inr, arith}
 use Rattle.buffer.specs.All.{All, none, more}
 use Rattle.buffer.specs.Ascii.{ascii}
 use Rattle.buffer.specs.Bytes.{same}
-use Rattle.buffer.specs.Checked.{Checked, is}
+use Rattle.buffer.specs.Checked.{Checked, is, refused}
 use Rattle.buffer.specs.CheckedLaws.{both}
 use Rattle.buffer.specs.First.{First}
 use Rattle.buffer.specs.FirstLaws.{first_fails, first_not_all}
@@ -18,9 +18,11 @@ use Rattle.color_encoding.specs.declared.JxlColorEncoding.{JxlColorEncoding}
 use Rattle.color_encoding.specs.declared.JxlColorEncoding.TheVariants.{RgbColorSpace, GrayscaleColorSpace, XYB}
 use Rattle.text.specs.Description.{description}
 use Rattle.profile.specs.Signatures as Sig
-use Rattle.profile.specs.Plan.{Plan, GrayContent, GrayWhite, unadapted, adapted, Content, gray, rgb}
+use Rattle.profile.specs.Plan.{Plan, GrayContent, Content, gray, rgb}
+use Rattle.profile.specs.declared.GrayWhite.{GrayWhite}
+use Rattle.profile.specs.declared.GrayWhite.TheVariants.{Unadapted as unadapted, Adapted as adapted}
 use Rattle.profile.specs.Elements.{tag_count}
-use Rattle.profile.specs.Numbers.{numbers_for}
+use Rattle.profile.specs.Numbers.{content_of}
 use Rattle.profile.specs.Shape.{is_adapted, shape_of, slots_of}
 use Rattle.profile.specs.TagTypes.{mluc, xyz, sf32, curve}
 use Rattle.profile.specs.Layout.{D50, tag, elements_for, elements, slots}
@@ -31,9 +33,8 @@ use Rattle.encoding_plan.specs.FixedFloats.{color_floats}
 use Rattle.encoding_plan.specs.EncodingPlan.{encoding_as, encoding_plan, counted_encoding_plan}
 use Rattle.encoding_plan.specs.EncodingPlanLaws.{from_color}
 use Rattle.encoding_plan.specs.declared.Encoding.{Encoding}
-use Rattle.writer.specs.Writer.{answer, Creates}
-use Rattle.writer.specs.declared.Profile.{Profile}
-use Rattle.writer.specs.declared.Profile.TheVariants.{Written, Refused}
+use Rattle.writer.specs.Writer.{profile, answer, Creates}
+use Rattle.writer.specs.declared.Written.{Written}
 use Rattle.writer_laws.specs.PlanLaws.{gray_parts, rgb_parts}
 use Rattle.writer_laws.specs.RefusalList.{Check, c1, c3, c4, c5, c6, c7, c8, c9, number, Passed, checks, Answers, refuses, writes, Ok1, Ok4, Ok5, Ok8, Ok9}
 use Rattle.writer_laws.specs.WriterAnswers.{writer_answers}
@@ -42,7 +43,7 @@ use Rattle.reader_spec.specs.Read.{read}
 use Rattle.reader_spec.proofs.Accepts.{accepts_exactly}
 use Rattle.reader_spec.specs.Finder.{is_among, element_under, find}
 use Rattle.reader_spec.proofs.Finds.{finds}
-use Rattle.reading.specs.Reading.{adapted_number, reading}
+use Rattle.reading.specs.Reading.{told, plan_reading, reading}
 use Rattle.reading.specs.declared.Reading.{Reading}
 use Rattle.coded_writer.specs.CodedWriter.{coded, coded_by, WritesCounted, MeasuresCounted}
 use Rattle.coded_writer.specs.CodedWriterLaws.{mark_unknown}
@@ -95,7 +96,7 @@ xyb_as_before a i = (refl, refl)
 
 -- ---- the file that was written is read as its plan
 
-module _ (e : Encoding) {n k : ℕ} (before after : List ℕ) (c : Creates e before after (Written n k)) where
+module _ (e : Encoding) {n k : ℕ} (before after : List ℕ) (c : Creates e before after (profile n k)) where
   abbrev plan : Plan
   plan = (written e n before after c).plan
 
@@ -142,15 +143,15 @@ module _ (w : JxlWhitePoint) (t : JxlTransferFunction) (i : RenderingIntent) (ma
       all_of : Due → All (Passed true color n) checks
       all_of ((a, b, c, d), f) = more a (more tt (more b (more c (more tt (more tt (more d (more f none)))))))
 
-      passed : {r : Profile} {m k : ℕ} → Answers true color n r → r ≡ Written m k → Due
+      passed : {r : Checked Written} {m k : ℕ} → Answers true color n r → r ≡ profile m k → Due
       passed (refuses f) g = let z : ◌≡◌ {A = ℕ} 0 1 = cc in absurd (omega arith)
       passed (writes p h all) g = every all
 
-      succeeds : {r : Profile} → Answers true color n r → Due → r ≡ answer (counted_encoding_plan e) n → Succeeds e n
+      succeeds : {r : Checked Written} → Answers true color n r → Due → r ≡ answer (counted_encoding_plan e) n → Succeeds e n
       succeeds (refuses f) o g = absurd (first_not_all f (all_of o))
       succeeds (writes p h all) o g = record { size = _; rounded = _; answers = sym g }
 
-  pub refused_by : (n k : ℕ) → answer (counted_encoding_plan e) n ≡ Refused k → (k ≡ 1) ⊎ ((k ≡ 4) ⊎ ((k ≡ 5) ⊎ ((k ≡ 8) ⊎ (k ≡ 9))))
+  pub refused_by : (n k : ℕ) → answer (counted_encoding_plan e) n ≡ refused k → (k ≡ 1) ⊎ ((k ≡ 4) ⊎ ((k ≡ 5) ⊎ ((k ≡ 8) ⊎ (k ≡ 9))))
   refused_by n k h = go (writer_answers e n) h
     where
       by : (c : Check) → First (Passed true color n) checks c → number c ≡ k → (k ≡ 1) ⊎ ((k ≡ 4) ⊎ ((k ≡ 5) ⊎ ((k ≡ 8) ⊎ (k ≡ 9))))
@@ -163,11 +164,11 @@ module _ (w : JxlWhitePoint) (t : JxlTransferFunction) (i : RenderingIntent) (ma
       by c8 f g = inr (inr (inr (inl (sym g))))
       by c9 f g = inr (inr (inr (inr (sym g))))
 
-      go : {r : Profile} → Answers true color n r → r ≡ Refused k → (k ≡ 1) ⊎ ((k ≡ 4) ⊎ ((k ≡ 5) ⊎ ((k ≡ 8) ⊎ (k ≡ 9))))
+      go : {r : Checked Written} → Answers true color n r → r ≡ refused k → (k ≡ 1) ⊎ ((k ≡ 4) ⊎ ((k ≡ 5) ⊎ ((k ≡ 8) ⊎ (k ≡ 9))))
       go (refuses {c} f) g = let same : number c ≡ k = cc in by c f same
       go (writes p q all) g = let z : ◌≡◌ {A = ℕ} 0 1 = cc in absurd (omega arith)
 
-  module _ {n k : ℕ} (before after : List ℕ) (c : Creates e before after (Written n k)) where
+  module _ {n k : ℕ} (before after : List ℕ) (c : Creates e before after (profile n k)) where
     has_mark : HasMark w t i (plan e before after c)
     has_mark = its_plan (written e n before after c).its_plan
 
@@ -181,7 +182,7 @@ module _ (w : JxlWhitePoint) (t : JxlTransferFunction) (i : RenderingIntent) (ma
     )
 
     pub same_chad : (a : Bool) (v : JxlWhitePoint) (p : JxlPrimaries) (u : JxlTransferFunction) (j : RenderingIntent) (x y : ℕ) {l o : ℕ} (empty full : List ℕ)
-        → Creates (encoding_as a x y (RgbColorSpace v p u j)) empty full (Written l o) → white_xy v ≡ white_xy w → find (take n after) Sig.chad ≡ find (take l full) Sig.chad
+        → Creates (encoding_as a x y (RgbColorSpace v p u j)) empty full (profile l o) → white_xy v ≡ white_xy w → find (take n after) Sig.chad ≡ find (take l full) Sig.chad
     same_chad a v p u j x y {l} empty full d same =
         let r = encoding_as a x y (RgbColorSpace v p u j) in
         let other = from_color r (written r l empty full d).its_plan in
@@ -194,14 +195,16 @@ module _ (w : JxlWhitePoint) (t : JxlTransferFunction) (i : RenderingIntent) (ma
         let equal : has_mark.chad ≡ g.chad = cc chad in
         chad_found ∙ ap sf32 equal ∙ sym found
 
-    pub read_back : (r : Reading) → r ≡ reading (read (take n after)) → (r.adapted ≡ 1) × (r.white_x ≡ pos 0) × (r.white_z ≡ pos 0) × (chad_numbers (white_xy w) ≡ is r.chad)
+    pub read_back : (r : Checked Reading) → r ≡ reading (read (take n after))
+        → (a : Reading) × (r ≡ is a) × (a.adapted ≡ 1) × (a.white_x ≡ pos 0) × (a.white_z ≡ pos 0) × (chad_numbers (white_xy w) ≡ is a.chad)
     read_back r h =
-        let p = plan e before after c in
-        let told : r ≡ reading (accepted p) = h ∙ ap reading (reads e before after c) in (
-          ap (λ (x : Reading). x.adapted) told ∙ ap (λ (x : Content). adapted_number (numbers_for p.intent x).adapted) has_mark.content,
-          ap (λ (x : Reading). x.white_x) told ∙ ap (λ (x : Content). (numbers_for p.intent x).white_x) has_mark.content,
-          ap (λ (x : Reading). x.white_z) told ∙ ap (λ (x : Content). (numbers_for p.intent x).white_z) has_mark.content,
-          has_mark.chad_is ∙ ap is (sym (ap (λ (x : Reading). x.chad) told ∙ ap (λ (x : Content). (numbers_for p.intent x).chad) has_mark.content)),
+        let p = plan e before after c in (
+          plan_reading p,
+          h ∙ ap reading (reads e before after c),
+          ap (λ (x : Content). (told (content_of x)).adapted) has_mark.content,
+          ap (λ (x : Content). (told (content_of x)).white_x) has_mark.content,
+          ap (λ (x : Content). (told (content_of x)).white_z) has_mark.content,
+          has_mark.chad_is ∙ ap is (sym (ap (λ (x : Content). (told (content_of x)).chad) has_mark.content)),
         )
 
 -- ---- from C

@@ -1,6 +1,6 @@
 -- What demand 2 stands on: the tests of `validate_icc_matrix` pass exactly where the numbers of the plan are given, and refuse by the same number.
 -- Assumes nothing.
-use Rattle.std.specs.Prelude.{ℕ, ◌≤◌, ◌≡◌, Bool, true, cond, List, [], ◌∷◌, leb, length, ℤ, Float}
+use Rattle.std.specs.Prelude.{Option, Some, None, Ok, Err, ℕ, ◌≤◌, ◌≡◌, Bool, true, cond, List, [], ◌∷◌, leb, length, ℤ, Float}
 use Rattle.std.proofs.Math.Path.{refl, ap}
 use Rattle.std.proofs.Common.{sym, ◌∙◌, arith, leb→le, le-leb}
 use Rattle.std.proofs.Math.Bool.{false}
@@ -13,7 +13,6 @@ use Rattle.floats.specs.Binary32.{one}
 use Rattle.numbers.specs.Fixed.{s15_fixed16, fixed_or}
 use Rattle.numbers.specs.Rounded.{rounded_in, counted}
 use Rattle.numbers.specs.declared.fixed.S15Fixed16.{S15Fixed16}
-use Rattle.numbers.specs.declared.fixed.S15Fixed16.TheVariants.{Number, OutOfRange}
 use Rattle.linalg.specs.Linalg.{component, rows, columns}
 use Rattle.color_encoding.specs.Coordinates.{white_xy, primaries_xy}
 use Rattle.color_encoding.specs.declared.RenderingIntent.{RenderingIntent}
@@ -29,7 +28,8 @@ use Rattle.white_point.specs.GrayWhiteLaws.{gray_white_lem}
 use Rattle.adaptation.specs.Adapt.{chad_matrix}
 use Rattle.colorimetry.specs.Primaries.{create_icc_rgb_matrix}
 use Rattle.colorimetry.specs.RefusalLaws.{by_white, by_chad, by_rgb_matrix}
-use Rattle.profile.specs.Plan.{Plan, unadapted}
+use Rattle.profile.specs.Plan.{Plan}
+use Rattle.profile.specs.declared.GrayWhite.TheVariants.{Unadapted as unadapted}
 use Rattle.profile.specs.Elements.{file_length, start, body_size, tag_count, padding}
 use Rattle.profile.specs.Shape.{slots_of}
 use Rattle.profile.specs.Layout.{layout}
@@ -42,9 +42,7 @@ use Rattle.encoding_plan.specs.FixedFloatsLaws.{xyb_count}
 use Rattle.encoding_plan.specs.PlanOfLaws.{gray_plan_lem, rgb_plan_lem}
 use Rattle.encoding_curve.specs.declared.SupportedCurve.{SupportedCurve}
 use Rattle.validate.specs.Validate.{is_s15_fixed_16, all_s15_fixed_16, in_range_or, white_in_range, matrix_in_range, matrices_in_range, in_range, stands_for, error_at, validation, validate_icc_matrix}
-use Rattle.validate.specs.declared.Validation.TheVariants.{Valid, InvalidWhitePointY, InvalidWhitePoint, MatrixInversionFailed, ValueOutOfRange}
-use Rattle.writer.specs.Writer.{answer, too_short}
-use Rattle.writer.specs.declared.Profile.TheVariants.{Written, Refused}
+use Rattle.writer.specs.Writer.{profile, answer, too_short}
 use Rattle.writer_laws.specs.PlanLaws.{gray_parts, rgb_parts}
 use Rattle.writer_laws.specs.RefusalList.{NeitherPqNorHlg, ReciprocalFits}
 use Rattle.writer_laws.specs.RefusalListLaws.{Decides, passes, refuses}
@@ -83,11 +81,11 @@ each_tested : (n : ℕ) (xs : List Float) → passed (each (fixed_or n) xs) ≡ 
 each_tested n [] = refl
 each_tested n (x ∷ xs) = go (s15_fixed16 x) refl (each_tested n xs)
   where
-    go : (s : S15Fixed16) → s15_fixed16 x ≡ s → passed (each (fixed_or n) xs) ≡ in_range_or n xs → passed (each (fixed_or n) (x ∷ xs)) ≡ in_range_or n (x ∷ xs)
-    go (Number z w) h rest =
+    go : (s : Option S15Fixed16) → s15_fixed16 x ≡ s → passed (each (fixed_or n) xs) ≡ in_range_or n xs → passed (each (fixed_or n) (x ∷ xs)) ≡ in_range_or n (x ∷ xs)
+    go (Some s) h rest =
         let t : is_s15_fixed_16 x ≡ true = fixed_range x ∙ ap is_number h in
-        simp (h, t) (passed_value (λ zs. z ∷ zs) (each (fixed_or n) xs) ∙ rest)
-    go OutOfRange h rest = let t : is_s15_fixed_16 x ≡ false = fixed_range x ∙ ap is_number h in simp (h, t)
+        simp (h, t) (passed_value (λ zs. s.number ∷ zs) (each (fixed_or n) xs) ∙ rest)
+    go None h rest = let t : is_s15_fixed_16 x ≡ false = fixed_range x ∙ ap is_number h in simp (h, t)
 
 abbrev Tested : Float → Type 0
 Tested x = is_s15_fixed_16 x ≡ true
@@ -139,17 +137,17 @@ one_tested = refl
 gray_tested : (w : WhiteXy) → passed (gray_white false w) ≡ white_in_range w
 gray_tested w = passed_value (λ xz. unadapted xz.0 xz.1) (gray_numbers w) ∙ go (cie_xyz_from_white_cie_xy w) refl
   where
-    two : (x z : Float) (s t : S15Fixed16) → s15_fixed16 x ≡ s → s15_fixed16 z ≡ t
+    two : (x z : Float) (s t : Option S15Fixed16) → s15_fixed16 x ≡ s → s15_fixed16 z ≡ t
         → passed {A = ℤ × ℤ} (then (fixed_or 7 x) (λ a. then (fixed_or 7 z) (λ b. is (a, b)))) ≡ in_range_or 7 (x ∷ one ∷ z ∷ [])
-    two x z (Number a v) (Number b w) h g =
+    two x z (Some a) (Some b) h g =
         let tx : is_s15_fixed_16 x ≡ true = fixed_range x ∙ ap is_number h in
         let tz : is_s15_fixed_16 z ≡ true = fixed_range z ∙ ap is_number g in
         simp (h, g, tx, one_tested, tz)
-    two x z (Number a v) OutOfRange h g =
+    two x z (Some a) None h g =
         let tx : is_s15_fixed_16 x ≡ true = fixed_range x ∙ ap is_number h in
         let tz : is_s15_fixed_16 z ≡ false = fixed_range z ∙ ap is_number g in
         simp (h, g, tx, one_tested, tz)
-    two x z OutOfRange t h g = let tx : is_s15_fixed_16 x ≡ false = fixed_range x ∙ ap is_number h in simp (h, tx)
+    two x z None t h g = let tx : is_s15_fixed_16 x ≡ false = fixed_range x ∙ ap is_number h in simp (h, tx)
 
     go : (c : Checked (List Float)) → cie_xyz_from_white_cie_xy w ≡ c → passed (gray_numbers w) ≡ white_in_range w
     go (is v) h =
@@ -160,20 +158,13 @@ gray_tested w = passed_value (λ xz. unadapted xz.0 xz.1) (gray_numbers w) ∙ g
 
 -- ---- the answer
 
-pub valid_if : (c : Checked (Unit {0})) → validation c ≡ Valid → c ≡ is tt
+pub valid_if : (c : Checked (Unit {0})) → validation c ≡ Ok tt → c ≡ is tt
 valid_if (is u) e = refl
-valid_if (refused n) e = go (stands_for InvalidWhitePointY n) (stands_for InvalidWhitePoint n) (stands_for MatrixInversionFailed n) e
-  where
-    go : (a b c : Bool)
-        → cond a InvalidWhitePointY (cond b InvalidWhitePoint (cond c MatrixInversionFailed ValueOutOfRange)) ≡ Valid → ◌≡◌ {A = Checked (Unit {0})} (refused n) (is tt)
-    go true b c e = cc
-    go false true c e = cc
-    go false false true e = cc
-    go false false false e = cc
+valid_if (refused n) e = cc
 
 -- a number that the tests refuse by is one that the answer stands for
 abbrev pub Named : ℕ → Type 0
-Named n = stands_for (error_at n) n ≡ true
+Named n = stands_for (Err (error_at n)) n ≡ true
 
 in_range_or_lem : (n : ℕ) → Named n → (vs : List Float) → Refusing Named (in_range_or n vs)
 in_range_or_lem n h vs = by_cond Named (all_s15_fixed_16 vs) _ _ tt h
@@ -267,11 +258,11 @@ module _ (i : RenderingIntent) where
   xyb_planned = refl
 
   -- its file has 720 bytes, and 30 of its fixed numbers are rounded
-  pub xyb_answered : (n : ℕ) → answer (counted_plan (XYB i)) n ≡ cond (leb 720 n) (Written 720 30) (Refused too_short)
+  pub xyb_answered : (n : ℕ) → answer (counted_plan (XYB i)) n ≡ cond (leb 720 n) (profile 720 30) (refused too_short)
   unfolding color_plan slots_of file_length start body_size tag_count padding
   xyb_answered n = rw (length-layout (xyb_plan i) tt, xyb_count false i) refl
 
-  pub xyb_valid : validate_icc_matrix (XYB i) ≡ Valid
+  pub xyb_valid : validate_icc_matrix (XYB i) ≡ Ok tt
   unfolding in_range
   xyb_valid = refl
 
@@ -281,26 +272,26 @@ module _ (i : RenderingIntent) where
 
 -- ---- a plan is written exactly if the output has room for it
 
-pub written_not_refused : {k size m : ℕ} → Refused k ≡ Written size m → ⊥
+pub written_not_refused : {k size m : ℕ} → refused k ≡ profile size m → ⊥
 written_not_refused e = let z : ◌≡◌ {A = ℕ} 0 1 = cc in omega arith
 
 module _ (a : Bool) (e : JxlColorEncoding) (n : ℕ) where
   known : {c : Checked Plan} → color_plan a e ≡ c → answer (counted_color_plan a e) n ≡ answer (counted (color_floats a e) c) n
   known h = ap (λ (c : Checked Plan). answer (counted (color_floats a e) c) n) h
 
-  pub written : {p : Plan} → color_plan a e ≡ is p → length (layout p) ≤ n → answer (counted_color_plan a e) n ≡ Written (length (layout p)) (rounded_in (color_floats a e))
+  pub written : {p : Plan} → color_plan a e ≡ is p → length (layout p) ≤ n → answer (counted_color_plan a e) n ≡ profile (length (layout p)) (rounded_in (color_floats a e))
   written {p} h room = known h ∙ simp (le-leb _ _ room)
 
-  pub has_plan : {size k : ℕ} → answer (counted_color_plan a e) n ≡ Written size k → Passes (color_plan a e)
+  pub has_plan : {size k : ℕ} → answer (counted_color_plan a e) n ≡ profile size k → Passes (color_plan a e)
   has_plan w = go (color_plan a e) refl
     where
       go : (c : Checked Plan) → color_plan a e ≡ c → Passes (color_plan a e)
       go (is p) h = record { value = p; given = h }
       go (refused k) h = absurd (written_not_refused (sym (known h) ∙ w))
 
-  pub has_room : {size k : ℕ} → answer (counted_color_plan a e) n ≡ Written size k → (p : Plan) → color_plan a e ≡ is p → length (layout p) ≤ n
+  pub has_room : {size k : ℕ} → answer (counted_color_plan a e) n ≡ profile size k → (p : Plan) → color_plan a e ≡ is p → length (layout p) ≤ n
   has_room {size} {k} w p h = go (leb (length (layout p)) n) refl (sym (known h) ∙ w)
     where
-      go : (b : Bool) → leb (length (layout p)) n ≡ b → cond b (Written (length (layout p)) (rounded_in (color_floats a e))) (Refused too_short) ≡ Written size k → length (layout p) ≤ n
+      go : (b : Bool) → leb (length (layout p)) n ≡ b → cond b (profile (length (layout p)) (rounded_in (color_floats a e))) (refused too_short) ≡ profile size k → length (layout p) ≤ n
       go true t g = leb→le (length (layout p)) n (Bools.holds t)
       go false t g = absurd (written_not_refused g)

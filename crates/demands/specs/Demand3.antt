@@ -3,7 +3,7 @@
 -- C struct's bytes tell. Assumes nothing.
 use Rattle.std.specs.Prelude.{ℕ, ◌≤◌, ◌≡◌, ◌↔◌, false, List, length, take}
 use Rattle.std.proofs.Common.{sym, ap, subst}
-use Rattle.buffer.specs.Checked.{is, refused}
+use Rattle.buffer.specs.Checked.{Checked, is, refused}
 use Rattle.profile.specs.Plan.{Plan}
 use Rattle.profile.specs.PlanLaws.{unmarked}
 use Rattle.profile.specs.Shape.{min_length, max_length}
@@ -12,8 +12,7 @@ use Rattle.encoding_plan.specs.FixedFloats.{color_floats}
 use Rattle.encoding_plan.specs.EncodingPlan.{encoding_plan}
 use Rattle.encoding_plan.specs.EncodingPlanLaws.{from_color, never_marked}
 use Rattle.encoding_plan.specs.declared.Encoding.{Encoding}
-use Rattle.writer.specs.Writer.{Creates}
-use Rattle.writer.specs.declared.Profile.TheVariants.{Written}
+use Rattle.writer.specs.Writer.{profile, Creates}
 use Rattle.writer_laws.specs.PlanValid.{encoding_plan_valid}
 use Rattle.reader_spec.specs.Exists.{Exists}
 use Rattle.reader_spec.specs.FileLaws.{computed_exists}
@@ -30,14 +29,14 @@ use Rattle.demands.specs.Demand3Laws as Laws
 use Rattle.demands.specs.Demand3Laws.{front_of}
 
 -- `read` ensures that it answers r to the file f
-abbrev pub Reads : List ℕ → Reading → Type 0
+abbrev pub Reads : List ℕ → Checked Reading → Type 0
 Reads f r = r ≡ reading (read f)
 
 -- ---- the reader
 
-module _ (f : List ℕ) (r : Reading) (h : Reads f r) where
+module _ (f : List ℕ) (r : Checked Reading) (h : Reads f r) where
   -- it accepts a file exactly when some plan lays out to those bytes, id included
-  pub accepts : (r.refusal ≡ 0) ↔ ((p : Plan) × Exists p × (layout p ≡ f))
+  pub accepts : ((a : Reading) × (r ≡ is a)) ↔ ((p : Plan) × Exists p × (layout p ≡ f))
   accepts = Laws.accepts f r h
 
   -- it answers that plan
@@ -49,8 +48,8 @@ module _ (f : List ℕ) (r : Reading) (h : Reads f r) where
   refuses c = Laws.refuses f r h c
 
   -- each byte of an accepted file has exactly one owner, and the length is the sum; there are 284 to 1,240
-  pub owned : r.refusal ≡ 0 → Owned f × (min_length ≤ length f) × (length f ≤ max_length)
-  owned e = Laws.owned f r h e
+  pub owned : (a : Reading) → r ≡ is a → Owned f × (min_length ≤ length f) × (length f ≤ max_length)
+  owned a e = Laws.owned f r h a e
 
 -- no other plan lays out to the same bytes
 pub one_plan : (p q : Plan) → Exists p → Exists q → layout p ≡ layout q → p ≡ q
@@ -68,8 +67,8 @@ module _ (f before after : List ℕ) (r : ℕ) (h : ReadsInC f before after r) w
   accepts_in_c = Laws.accepts_in_c f before after r h
 
   -- then the bytes of the record tell that plan, as the reader's struct does
-  pub answers_in_c : r ≡ 0 → (p : Plan) → (told (reading_by after) ≡ is p) ↔ (Exists p × (layout p ≡ f))
-  answers_in_c zero p = Laws.answers f (reading_by after) (Laws.stored f before after r h zero) p
+  pub answers_in_c : r ≡ 0 → (p : Plan) → (told (is (reading_by after)) ≡ is p) ↔ (Exists p × (layout p ≡ f))
+  answers_in_c zero p = Laws.answers f (is (reading_by after)) (Laws.stored_is f before after r h zero) p
 
   -- it answers the number of the first check of 01's list that the file does not pass, however long the record is
   pub refuses_in_c : (c : Check) → (r ≡ number c) ↔ FirstFailing f checks c
@@ -86,10 +85,10 @@ pub record WroteItsPlan (e : Encoding) (n : ℕ) (after : List ℕ) : Type 0 whe
   pub computed : plan.id_not_computed ≡ false
   pub exists : Exists plan
   pub laid_out : take n after ≡ layout plan
-  pub read_back : (r : Reading) → Reads (take n after) r → told r ≡ is plan
+  pub read_back : (r : Checked Reading) → Reads (take n after) r → told r ≡ is plan
 
 -- `maybe_create_profile` ensures `Creates`
-pub written : (e : Encoding) (n : ℕ) {k : ℕ} (before after : List ℕ) → Creates e before after (Written n k) → WroteItsPlan e n after
+pub written : (e : Encoding) (n : ℕ) {k : ℕ} (before after : List ℕ) → Creates e before after (profile n k) → WroteItsPlan e n after
 written e n before after w =
     let p = front_of (color_floats e.adapted e.color) (encoding_plan e) before after w.writes.answer w.writes.output in
     let computed = never_marked e p.1 in

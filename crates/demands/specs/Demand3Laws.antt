@@ -1,17 +1,17 @@
 -- Lemmas of demand 3: what the reader's struct tells by what `read` answers, what the record of a C call tells, and what stands at the front of the
 -- writer's output. Assumes nothing.
-use Rattle.std.specs.Prelude.{ℕ, ◌≤◌, ◌≡◌, refl, ◌↔◌, Bool, true, false, cond, List, [], eqb, leb, Float, length, take, drop}
-use Rattle.std.proofs.Common.{ap, sym, ◌∙◌, arith, le-leb, leb-true, ne_eqb}
+use Rattle.std.specs.Prelude.{ℕ, ◌≤◌, ◌≡◌, refl, ◌↔◌, Bool, true, false, cond, List, [], leb, Float, length, take, drop}
+use Rattle.std.proofs.Common.{ap, sym, ◌∙◌, arith, le-leb, leb-true}
 use Rattle.buffer.specs.Buffer.{put}
 use Rattle.buffer.specs.BufferLaws.{put_after, take_put}
-use Rattle.buffer.specs.Checked.{Checked, is, refused as refusedBy}
+use Rattle.buffer.specs.Checked.{Checked, is, refused as refusedBy, value_or}
 use Rattle.buffer.specs.CheckedLaws.{never}
 use Rattle.profile.specs.Plan.{Plan}
 use Rattle.profile.specs.Shape.{min_length, max_length}
 use Rattle.profile.specs.Layout.{layout}
 use Rattle.numbers.specs.Rounded.{rounded_in, counted}
-use Rattle.writer.specs.Writer.{answer, output, too_short}
-use Rattle.writer.specs.declared.Profile.TheVariants.{Written, Refused}
+use Rattle.writer.specs.declared.Written.{Written}
+use Rattle.writer.specs.Writer.{number as number_of, count_after, profile, answer, output, too_short}
 use Rattle.reader_spec.specs.Exists.{Exists}
 use Rattle.reader_spec.specs.RefusalList.{Answer, Answers, Check, FirstFailing, checks, refused, accepted, refuses as by-list, number}
 use Rattle.reader_spec.specs.RefusalListLaws.{number_bounds}
@@ -19,11 +19,11 @@ use Rattle.reader_spec.specs.Read.{read}
 use Rattle.reader_spec.proofs.ReadAnswers.{read_answers, read_is}
 use Rattle.reader_spec.specs.Owners.{Owned}
 use Rattle.reader_spec.proofs.Accepts.{accepts_exactly, accepted_owned}
-use Rattle.reading.specs.Reading.{reading}
+use Rattle.reading.specs.Reading.{plan_reading, reading}
 use Rattle.reading.specs.declared.Reading.{Reading}
 use Rattle.plan_record.specs.PlanRecord.{record_size, plan_record, reading_by}
 use Rattle.plan_record.specs.RecordTold.{record_told}
-use Rattle.host.specs.Host.{read_number, ReadsPlan}
+use Rattle.host.specs.Host.{stored, stored_number, ReadsPlan}
 use Rattle.demands.specs.Demand2Laws.{written_not_refused}
 use Rattle.demands.specs.Told.{told}
 use Rattle.demands.specs.ToldLaws.{check_by, check_back, plan_told, refusal_told}
@@ -42,28 +42,25 @@ same_check e = same_number (cc)
 first_if : {f : List ℕ} {c : Check} → Answers f (refused c) → FirstFailing f checks c
 first_if (by-list h) = h
 
-module _ (f : List ℕ) (r : Reading) (h : r ≡ reading (read f)) where
+module _ (f : List ℕ) (r : Checked Reading) (h : r ≡ reading (read f)) where
   told_plan : (p : Plan) → read f ≡ accepted p → told r ≡ is p
   told_plan p e = ap told (h ∙ ap reading e) ∙ plan_told p ((accepts_exactly f p).0 e).0.valid
 
   told_refusal : (c : Check) → read f ≡ refused c → told r ≡ refusedBy (number c)
   told_refusal c e = ap told (h ∙ ap reading e) ∙ refusal_told c
 
-  refusal_is : (a : Answer) → read f ≡ a → r.refusal ≡ (reading a).refusal
-  refusal_is a e = ap (λ (x : Reading). x.refusal) (h ∙ ap reading e)
-
   -- an accepted file's plan
-  plan_if : r.refusal ≡ 0 → (p : Plan) × (read f ≡ accepted p)
-  plan_if zero = go (read f) refl
+  plan_if : (a : Reading) → r ≡ is a → (p : Plan) × (read f ≡ accepted p)
+  plan_if a told = go (read f) refl
     where
-      go : (a : Answer) → read f ≡ a → (p : Plan) × (read f ≡ accepted p)
+      go : (b : Answer) → read f ≡ b → (p : Plan) × (read f ≡ accepted p)
       go (accepted p) e = (p, e)
-      go (refused c) e = absurd (omega (arith, (number_bounds c).0, refusal_is (refused c) e, zero))
+      go (refused c) e = absurd (never (sym (h ∙ ap reading e) ∙ told))
 
-  pub accepts : (r.refusal ≡ 0) ↔ ((p : Plan) × Exists p × (layout p ≡ f))
+  pub accepts : ((a : Reading) × (r ≡ is a)) ↔ ((p : Plan) × Exists p × (layout p ≡ f))
   accepts = (
-    λ zero. let q = plan_if zero in let v = (accepts_exactly f q.0).0 q.1 in (q.0, v.0, v.1),
-    λ s. refusal_is (accepted s.0) ((accepts_exactly f s.0).1 (s.1, s.2)),
+    λ s. let q = plan_if s.0 s.1 in let v = (accepts_exactly f q.0).0 q.1 in (q.0, v.0, v.1),
+    λ s. (plan_reading s.0, h ∙ ap reading ((accepts_exactly f s.0).1 (s.1, s.2))),
   )
 
   pub answers : (p : Plan) → (told r ≡ is p) ↔ (Exists p × (layout p ≡ f))
@@ -83,49 +80,46 @@ module _ (f : List ℕ) (r : Reading) (h : r ≡ reading (read f)) where
           let listed : Answers f (refused d) = rw e at (read_answers f) in
           rw (← same) (first_if listed)
 
-  pub owned : r.refusal ≡ 0 → Owned f × (min_length ≤ length f) × (length f ≤ max_length)
-  owned zero = let q = plan_if zero in accepted_owned f q.0 q.1
+  pub owned : (a : Reading) → r ≡ is a → Owned f × (min_length ≤ length f) × (length f ≤ max_length)
+  owned a e = let q = plan_if a e in accepted_owned f q.0 q.1
 
 -- ---- the reader from C
 
-number_answered : (c : Check) (n : ℕ) → read_number (reading (refused c)) n ≡ number c
-number_answered c n = rw (ne_eqb (number c) 0 (λ z. omega (arith, (number_bounds c).0)))
-
-refusal_not_zero : (c : Check) (n : ℕ) → 0 ≡ read_number (reading (refused c)) n → ⊥
-refusal_not_zero c n e = omega (arith, (number_bounds c).0, e ∙ number_answered c n)
-
--- where the answer is 0 the record holds the struct
-in_record : (a : Reading) (before : List ℕ) {after : List ℕ} {n : ℕ} → 0 ≡ n → after ≡ cond (eqb n 0) (put before 0 (plan_record a)) before → after ≡ put before 0 (plan_record a)
-in_record a before zero e = rw (← zero) at e
+-- what is left in a record that was `before`
+abbrev kept : Checked Reading → List ℕ → Checked (List ℕ)
+kept c before = stored record_size plan_record c before
 
 module _ (f before after : List ℕ) (r : ℕ) (h : ReadsPlan (reading (read f)) before after r) where
-  answered : (a : Answer) → read f ≡ a → r ≡ read_number (reading a) (length before)
-  answered a e = h.answer ∙ ap (λ (x : Answer). read_number (reading x) (length before)) e
+  answered : (a : Answer) → read f ≡ a → r ≡ stored_number (kept (reading a) before)
+  answered a e = h.answer ∙ ap (λ (x : Answer). stored_number (kept (reading x) before)) e
+
+  left : (a : Answer) → read f ≡ a → after ≡ value_or before (kept (reading a) before)
+  left a e = h.left ∙ ap (λ (x : Answer). value_or before (kept (reading x) before)) e
 
   -- an accepted file's plan, and a record that has room
   plan_and_room : r ≡ 0 → ((p : Plan) × (read f ≡ accepted p)) × (record_size ≤ length before)
   plan_and_room zero = go (read f) refl
     where
-      room : (b : Bool) → leb record_size (length before) ≡ b → 0 ≡ cond b 0 too_short → record_size ≤ length before
-      room true e z = leb-true record_size (length before) e
-      room false e z = absurd (omega arith)
+      room : (p : Plan) (b : Bool) → leb record_size (length before) ≡ b
+          → 0 ≡ stored_number (cond b (is (put before 0 (plan_record (plan_reading p)))) (refusedBy too_short)) → record_size ≤ length before
+      room p true e z = leb-true record_size (length before) e
+      room p false e z = absurd (omega arith)
 
       go : (a : Answer) → read f ≡ a → ((p : Plan) × (read f ≡ accepted p)) × (record_size ≤ length before)
-      go (accepted p) e = ((p, e), room (leb record_size (length before)) refl (sym zero ∙ answered (accepted p) e))
-      go (refused c) e = absurd (refusal_not_zero c (length before) (sym zero ∙ answered (refused c) e))
+      go (accepted p) e = ((p, e), room p (leb record_size (length before)) refl (sym zero ∙ answered (accepted p) e))
+      go (refused c) e = absurd (omega (arith, (number_bounds c).0, answered (refused c) e, zero))
 
   -- the record tells the reader's struct
-  pub stored : r ≡ 0 → reading_by after ≡ reading (read f)
-  stored zero =
+  pub stored_is : r ≡ 0 → is (reading_by after) ≡ reading (read f)
+  stored_is zero =
       let q = plan_and_room zero in
       let p = q.0.0 in
       let e = q.0.1 in
-      let bytes = plan_record (reading (accepted p)) in
-      ap reading_by
-      (in_record (reading (read f)) before (sym zero ∙ h.answer) h.plan
-      ∙ ap (λ (a : Answer). put before 0 (plan_record (reading a))) e
-      ∙ put_after [] before bytes 0 refl)
-      ∙ record_told p ((accepts_exactly f p).0 e).0.valid (drop (length bytes) before)
+      let bytes = plan_record (plan_reading p) in
+      let whole = le-leb record_size (length before) q.1 in
+      ap is
+      (ap reading_by (left (accepted p) e ∙ rw whole refl ∙ put_after [] before bytes 0 refl)
+      ∙ record_told p ((accepts_exactly f p).0 e).0.valid (drop (length bytes) before))
       ∙ sym (ap reading e)
 
   pub accepts_in_c : (r ≡ 0) ↔ (((p : Plan) × Exists p × (layout p ≡ f)) × (record_size ≤ length before))
@@ -138,14 +132,14 @@ module _ (f before after : List ℕ) (r : ℕ) (h : ReadsPlan (reading (read f))
   refuses_in_c c = (λ t. go t (read f) refl, λ first. refused_number c (read_is f (refused c) (by-list first)))
     where
       refused_number : (c : Check) → read f ≡ refused c → r ≡ number c
-      refused_number c e = answered (refused c) e ∙ number_answered c (length before)
+      refused_number c e = answered (refused c) e
 
-      small : (b : Bool) → cond b 0 too_short ≤ 9
-      small true = omega arith
-      small false = omega arith
+      small : (l : List ℕ) (b : Bool) → stored_number (cond b (is l) (refusedBy too_short)) ≤ 9
+      small l true = omega arith
+      small l false = omega arith
 
       go : r ≡ number c → (a : Answer) → read f ≡ a → FirstFailing f checks c
-      go t (accepted q) e = absurd (omega (arith, (number_bounds c).0, small (leb record_size (length before)), answered (accepted q) e, t))
+      go t (accepted q) e = absurd (omega (arith, (number_bounds c).0, small (put before 0 (plan_record (plan_reading q))) (leb record_size (length before)), answered (accepted q) e, t))
       go t (refused d) e =
           let same : d ≡ c = same_number (sym (refused_number d e) ∙ t) in
           let listed : Answers f (refused d) = rw e at (read_answers f) in
@@ -153,25 +147,25 @@ module _ (f before after : List ℕ) (r : ℕ) (h : ReadsPlan (reading (read f))
 
 -- ---- the writer
 
-written_length : {n m j k : ℕ} → Written m j ≡ Written n k → m ≡ n
-written_length e = cc
+written_length : {n m j k : ℕ} → profile m j ≡ profile n k → m ≡ n
+written_length e = ap number_of e
 
 -- a count that was answered is that of a plan
-pub count_of : (xs : List Float) (c : Checked Plan) (room : ℕ) {n k : ℕ} → Written n k ≡ answer (counted xs c) room → (p : Plan) × (c ≡ is p) × (k ≡ rounded_in xs)
+pub count_of : (xs : List Float) (c : Checked Plan) (room : ℕ) {n k : ℕ} → profile n k ≡ answer (counted xs c) room → (p : Plan) × (c ≡ is p) × (k ≡ rounded_in xs)
 count_of xs (refusedBy j) room w = absurd (written_not_refused (sym w))
 count_of xs (is p) room {n} {k} w = (p, refl, go (leb (length (layout p)) room) w)
   where
-    go : (b : Bool) → Written n k ≡ cond b (Written (length (layout p)) (rounded_in xs)) (Refused too_short) → k ≡ rounded_in xs
-    go true e = cc
+    go : (b : Bool) → profile n k ≡ cond b (profile (length (layout p)) (rounded_in xs)) (refusedBy too_short) → k ≡ rounded_in xs
+    go true e = ap (λ (a : Checked Written). count_after a 0) e
     go false e = absurd (written_not_refused (sym e))
 
 -- a plan that was written is the front of the output
-pub front_of : (xs : List Float) (c : Checked Plan) {n k : ℕ} (before after : List ℕ) → Written n k ≡ answer (counted xs c) (length before) → after ≡ output c before
+pub front_of : (xs : List Float) (c : Checked Plan) {n k : ℕ} (before after : List ℕ) → profile n k ≡ answer (counted xs c) (length before) → after ≡ output c before
     → (p : Plan) × (c ≡ is p) × (take n after ≡ layout p)
 front_of xs (refusedBy j) before after w o = absurd (written_not_refused (sym w))
 front_of xs (is p) {n} {k} before after w o = (p, refl, go (leb (length (layout p)) (length before)) (sym w) o)
   where
-    go : (b : Bool) → cond b (Written (length (layout p)) (rounded_in xs)) (Refused too_short) ≡ Written n k → after ≡ cond b (put before 0 (layout p)) before → take n after ≡ layout p
+    go : (b : Bool) → cond b (profile (length (layout p)) (rounded_in xs)) (refusedBy too_short) ≡ profile n k → after ≡ cond b (put before 0 (layout p)) before → take n after ≡ layout p
     go true e o =
         ap (take n) o ∙ ap (λ (k : ℕ). take k (put before 0 (layout p))) (sym (written_length e))
         ∙ take_put before 0 (layout p) (length (layout p)) (omega arith) refl

@@ -12,9 +12,8 @@ use Rattle.encoding_plan.specs.PlanOf.{color_plan, plan_of}
 use Rattle.encoding_plan.specs.EncodingPlan.{encoding_as, plain_encoding, encoding_plan, counted_encoding_plan}
 use Rattle.encoding_plan.specs.EncodingPlanLaws.{plain_fields, plain_plan_lem, from_color}
 use Rattle.encoding_plan.specs.declared.Encoding.{Encoding}
-use Rattle.writer.specs.Writer.{answer, Creates}
+use Rattle.writer.specs.Writer.{profile, answer, Creates}
 use Rattle.writer.specs.WriterLaws.{any_device}
-use Rattle.writer.specs.declared.Profile.TheVariants.{Written}
 use Rattle.demands.specs.OldFiles.{old_layout, patched, Elsewhere}
 use Rattle.demands.specs.DeviceLaws as Laws
 use Rattle.demands.specs.Demand3.{written}
@@ -60,7 +59,7 @@ same_answer m c a b maker model n = any_device (encoding_as m a b c) n ∙ sym (
 
 -- ---- running code: `maybe_create_profile` ensures `Creates`
 
-pub written_patched : (e : Encoding) (n : ℕ) {k : ℕ} (before after : List ℕ) → Creates e before after (Written n k)
+pub written_patched : (e : Encoding) (n : ℕ) {k : ℕ} (before after : List ℕ) → Creates e before after (profile n k)
     → (p : Plan) × (color_plan e.adapted e.color ≡ is p) × (take n after ≡ patched e.maker e.model (layout p))
 written_patched e n before after w =
     let p = written e n before after w in

@@ -7,12 +7,12 @@ use Rattle.buffer.specs.Checked.{Checked}
 use Rattle.color_encoding.specs.declared.JxlColorEncoding.{JxlColorEncoding}
 use Rattle.encoding_plan.specs.declared.Encoding.{Encoding}
 use Rattle.writer.specs.Writer.{number, Creates, MeasuresProfile}
-use Rattle.writer.specs.declared.Profile.{Profile}
+use Rattle.writer.specs.declared.Written.{Written}
 use Rattle.coded_writer.specs.CodedWriter.{coded, coded_by, WritesCode, MeasuresCode}
 use Rattle.coded_writer.specs.CodedWriterLaws.{any_device_coded, any_device_by}
 
 -- `maybe_create_profile` ensures `Creates`, and `profile_length` ensures `MeasuresProfile`
-pub same_answer : (e : Encoding) (before after : List ℕ) (written dry : Profile)
+pub same_answer : (e : Encoding) (before after : List ℕ) (written dry : Checked Written)
     → Creates e before after written → MeasuresProfile e (length before) dry → dry ≡ written
 same_answer e before after written dry w m = m.answer ∙ sym w.writes.answer
 

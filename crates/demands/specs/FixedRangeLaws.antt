@@ -1,5 +1,5 @@
 -- The range test of `validate_icc_matrix` on a float passes exactly if the float has a fixed number. Assumes nothing.
-use Rattle.std.specs.Prelude.{ℕ, ◌+◌, ◌*◌, ◌<◌, ◌≤◌, ◌≡◌, refl, ◌⊎◌, Bool, true, false, ◌&&◌, ◌||◌, not, cond, T, ltb, leb, eqb, ℤ, Float}
+use Rattle.std.specs.Prelude.{Option, Some, None, ℕ, ◌+◌, ◌*◌, ◌<◌, ◌≤◌, ◌≡◌, refl, ◌⊎◌, Bool, true, false, ◌&&◌, ◌||◌, not, cond, T, ltb, leb, eqb, ℤ, Float}
 use Rattle.std.proofs.Common.{sym, ◌∙◌, inl, inr, mul-pos, arith, ltb→lt, nltb→le, lit<, lt-ltb, le-ltb, eq-eqb, ne_eqb, le-leb}
 use Rattle.std.specs.Float.{nan, inf, fin}
 use Rattle.std.specs.Float.Ieee.{up, down, below, level, of_bits, lt, eq, le}
@@ -7,15 +7,14 @@ use Rattle.std.specs.Float.Ieee.Fits.{down_pos}
 use Rattle.std.proofs.lemmas.Bool.{lt-leb}
 use Rattle.buffer.specs.BoolLaws.{and_true}
 use Rattle.floats.specs.Rounding.{halves_up}
-use Rattle.numbers.specs.Fixed.{signed, largest, whole_fraction, of_fraction, s15_fixed16}
+use Rattle.numbers.specs.Fixed.{some_number, signed, largest, whole_fraction, of_fraction, s15_fixed16}
 use Rattle.numbers.specs.declared.fixed.S15Fixed16.{S15Fixed16}
-use Rattle.numbers.specs.declared.fixed.S15Fixed16.TheVariants.{Number, OutOfRange}
 use Rattle.validate.specs.Validate.{is_s15_fixed_16}
 
 -- a float has a fixed number, or none
-abbrev pub is_number : S15Fixed16 → Bool
-is_number (Number z w) = true
-is_number OutOfRange = false
+abbrev pub is_number : Option S15Fixed16 → Bool
+is_number (Some s) = true
+is_number None = false
 
 lt-or_ge : (a b : ℕ) → (a < b) ⊎ (b ≤ a)
 lt-or_ge a b = go (ltb a b) (ltb→lt a b) (nltb→le a b)
@@ -59,7 +58,7 @@ scaled n d = go (lt-or_ge (16777213 * 1 * d) (n * 512))
 is_number_lem : (s : Bool) (num den : ℕ) → is_number (of_fraction s num den) ≡ leb (num * 65536) (largest * den)
 is_number_lem s num den = go (leb (num * 65536) (largest * den)) (signed s (halves_up (num * 65536) den)) (whole_fraction num den)
   where
-    go : (t : Bool) (z : ℤ) (w : Bool) → is_number (cond t (Number z w) OutOfRange) ≡ t
+    go : (t : Bool) (z : ℤ) (w : Bool) → is_number (cond t (some_number z w) None) ≡ t
     go true z w = refl
     go false z w = refl
 

@@ -5,14 +5,13 @@ use Rattle.std.specs.Prelude.{ℕ, ◌≡◌, ◌↔◌, true, false, List, leng
 use Rattle.std.proofs.Common.{sym}
 use Rattle.buffer.specs.Buffer.{put}
 use Rattle.buffer.specs.Bytes.{zeros}
-use Rattle.buffer.specs.Checked.{is, refused as refusedBy}
+use Rattle.buffer.specs.Checked.{is, refused as refusedBy, Checked}
 use Rattle.profile.specs.Plan.{Plan, Valid, with_mark}
 use Rattle.profile.specs.Layout.{id_at, id_size, with_id, profile_id, computed_id}
 use Rattle.encoding_plan.specs.EncodingPlan.{encoding_plan}
 use Rattle.encoding_plan.specs.EncodingPlanLaws as EncodingPlanLaws
 use Rattle.encoding_plan.specs.declared.Encoding.{Encoding}
-use Rattle.writer.specs.Writer.{Creates}
-use Rattle.writer.specs.declared.Profile.TheVariants.{Written}
+use Rattle.writer.specs.Writer.{profile, Creates}
 use Rattle.reader_spec.specs.Table.{varying_of}
 use Rattle.reader_spec.specs.RefusalList.{accepted, refused, c28}
 use Rattle.reader_spec.specs.Read.{read}
@@ -61,15 +60,15 @@ same_elements = Laws.same_elements
 
 -- ---- running code: what `maybe_create_profile` wrote, with other bytes in place of its id, as `read` answers to it
 
-module _ (e : Encoding) (n : ℕ) {k : ℕ} (before after : List ℕ) (w : Creates e before after (Written n k)) where
-  pub written_zeroed : ¬ (zeros id_size ≡ profile_id (take n after)) → (r : Reading) → Reads (put (take n after) id_at (zeros id_size)) r
+module _ (e : Encoding) (n : ℕ) {k : ℕ} (before after : List ℕ) (w : Creates e before after (profile n k)) where
+  pub written_zeroed : ¬ (zeros id_size ≡ profile_id (take n after)) → (r : Checked Reading) → Reads (put (take n after) id_at (zeros id_size)) r
       → told r ≡ is (with_mark true (written e n before after w).plan)
   written_zeroed h r reads =
       let p = written e n before after w in
       Laws.told_marked (take n after) p.plan p.exists (sym p.laid_out) h r reads
 
   pub written_another : (d : List ℕ) → length d ≡ id_size → ¬ (d ≡ profile_id (take n after)) → ¬ (d ≡ zeros id_size)
-      → (r : Reading) → Reads (put (take n after) id_at d) r → told r ≡ refusedBy 28
+      → (r : Checked Reading) → Reads (put (take n after) id_at d) r → told r ≡ refusedBy 28
   written_another d sixteen other nonzero r reads =
       let p = written e n before after w in
       Laws.told_28 (take n after) p.plan p.exists (sym p.laid_out) d sixteen other nonzero r reads

@@ -5,7 +5,7 @@ use Rattle.std.proofs.Common.{ap, ◌∙◌, subst}
 use Rattle.std.proofs.Math.Bool.{true, cond}
 use Rattle.buffer.specs.Buffer.{put}
 use Rattle.buffer.specs.Bytes.{zeros}
-use Rattle.buffer.specs.Checked.{is, refused as refusedBy}
+use Rattle.buffer.specs.Checked.{is, refused as refusedBy, Checked}
 use Rattle.profile.specs.Plan.{Plan, Valid, with_mark}
 use Rattle.profile.specs.PlanLaws.{unmarked}
 use Rattle.profile.specs.Layout.{elements, with_id, profile_id, computed_id, id_for, layout}
@@ -47,10 +47,10 @@ module _ (f : List ℕ) (p : Plan) (x : Exists p) (laid : layout p ≡ f) where
       put_28 : ¬ (d ≡ zeros 16) → read (put f 84 d) ≡ refused c28
       put_28 nonzero = ap read (under d sixteen) ∙ reads_28 p x.valid d sixteen (λ i. other (i ∙ sym its_id)) nonzero
 
-      pub told_28 : ¬ (d ≡ zeros 16) → (r : Reading) → r ≡ reading (read (put f 84 d)) → told r ≡ refusedBy 28
+      pub told_28 : ¬ (d ≡ zeros 16) → (r : Checked Reading) → r ≡ reading (read (put f 84 d)) → told r ≡ refusedBy 28
       told_28 nonzero r h = ap told (h ∙ ap reading (put_28 nonzero)) ∙ refusal_told c28
 
-  pub told_marked : ¬ (zeros 16 ≡ profile_id f) → (r : Reading) → r ≡ reading (read (put f 84 (zeros 16))) → told r ≡ is (with_mark true p)
+  pub told_marked : ¬ (zeros 16 ≡ profile_id f) → (r : Checked Reading) → r ≡ reading (read (put f 84 (zeros 16))) → told r ≡ is (with_mark true p)
   told_marked other r h = ap told (h ∙ ap reading (put_zeros (zeros 16) refl other refl)) ∙ plan_told (with_mark true p) (mark_valid true p x.valid)
 
 -- ---- an accepted file

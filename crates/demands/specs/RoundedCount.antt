@@ -2,16 +2,15 @@
 -- the file has; a refusal has none; the dry call counts as the writer does. In Rattle and from C. Assumes nothing.
 use Rattle.std.specs.Prelude.{ℕ, ◌≤◌, ◌≡◌, List, length}
 use Rattle.std.proofs.Common.{sym, ap, ◌∙◌, arith}
-use Rattle.buffer.specs.Checked.{Checked, is}
+use Rattle.buffer.specs.Checked.{Checked, is, refused}
 use Rattle.numbers.specs.Rounded.{rounded_in}
 use Rattle.profile.specs.Plan.{Plan}
 use Rattle.encoding_plan.specs.EncodingPlan.{encoding_plan}
 use Rattle.encoding_plan.specs.EncodingPlanLaws.{from_color}
 use Rattle.encoding_plan.specs.declared.Encoding.{Encoding}
 use Rattle.encoding_plan.specs.FixedFloats.{color_floats}
-use Rattle.writer.specs.Writer.{profile_by, count_after, Creates}
-use Rattle.writer.specs.declared.Profile.{Profile}
-use Rattle.writer.specs.declared.Profile.TheVariants.{Written, Refused}
+use Rattle.writer.specs.Writer.{profile, profile_by, count_after, Creates}
+use Rattle.writer.specs.declared.Written.{Written}
 use Rattle.writer_laws.specs.FileNumbers.{number_count}
 use Rattle.writer_laws.specs.NumbersOfFloats.{most_rounded}
 use Rattle.coded_writer.specs.CodedWriter.{code_answer, WritesCounted, MeasuresCounted}
@@ -25,7 +24,7 @@ pub record CountedIts (e : Encoding) (k : ℕ) : Type 0 where
   pub rounded : k ≡ rounded_in (color_floats e.adapted e.color)
   pub most : k ≤ number_count plan.content
 
-pub counted_its : (e : Encoding) {n k : ℕ} (before after : List ℕ) → Creates e before after (Written n k) → CountedIts e k
+pub counted_its : (e : Encoding) {n k : ℕ} (before after : List ℕ) → Creates e before after (profile n k) → CountedIts e k
 counted_its e before after w =
     let c = count_of (color_floats e.adapted e.color) (encoding_plan e) (length before) w.writes.answer in
     let d = from_color e c.1 in
@@ -42,8 +41,8 @@ module _ (c : Checked Encoding) where
   measured_told n {k} {m} {r} d = ap (profile_by r) d.rounded ∙ d.measures.told k
 
   -- a refusal leaves the count
-  pub refused_leaves : (before after : List ℕ) {k m r j : ℕ} → WritesCounted c before after k m r → code_answer c (length before) ≡ Refused j → m ≡ k
-  refused_leaves before after {k} w h = w.rounded ∙ ap (λ (a : Profile). count_after a k) h
+  pub refused_leaves : (before after : List ℕ) {k m r j : ℕ} → WritesCounted c before after k m r → code_answer c (length before) ≡ refused j → m ≡ k
+  refused_leaves before after {k} w h = w.rounded ∙ ap (λ (a : Checked Written). count_after a k) h
 
   -- the dry call with the output's length counts as the writer does
   pub same_count : (before after : List ℕ) {k m l r s : ℕ} → WritesCounted c before after k m r → MeasuresCounted c (length before) k l s → (s ≡ r) × (l ≡ m)

@@ -4,9 +4,9 @@ use Rattle.std.proofs.Common.{ap, sym, ◌∙◌, zero-add, arith, le-leb, drop_
 use Rattle.std.proofs.lemmas.Bool.{lt-leb}
 use Rattle.buffer.specs.Buffer.{put}
 use Rattle.buffer.specs.Checked.{Checked, is, refused}
+use Rattle.buffer.specs.CheckedLaws.{never}
 use Rattle.profile.specs.Shape.{min_length}
 use Rattle.app2.specs.App2 as App2
-use Rattle.app2.specs.declared.Output.TheVariants.{Written, Refused}
 use Rattle.host.specs.Host.{GivesNumber}
 
 -- a number from 284 on is the length of bytes that were written
@@ -19,21 +19,15 @@ pub record Wrote (c : Checked (List ℕ)) (before after : List ℕ) (r : ℕ) : 
 pub wrote : (c : Checked (List ℕ)) (before after : List ℕ) (r : ℕ) → GivesNumber c before after r → min_length ≤ r → Wrote c before after r
 wrote (is l) before after r g h = record { written = l; gives = refl; length-is = g.answer; output = g.output }
 wrote (refused k) before after r g h =
-    let high : App2.output_by r ≡ Written r = rw (lt-leb r 99 (omega arith)) in
-    absurd (other r k (sym high ∙ g.told))
-  where
-    other : (r k : ℕ) → Written r ≡ Refused k → ⊥
-    other r k e = let z : ◌≡◌ {A = ℕ} 0 1 = cc in omega arith
+    let high : App2.output_by r ≡ is r = rw (lt-leb r 99 (omega arith)) in
+    absurd (never (sym (sym high ∙ g.told)))
 
 -- a number up to 99 is a refusal
 pub refused_with_lem : (c : Checked (List ℕ)) (before after : List ℕ) (r : ℕ) → GivesNumber c before after r → r ≤ 99 → (c ≡ refused r) × (after ≡ before)
 refused_with_lem (refused k) before after r g h = (ap refused (sym g.answer), g.output)
 refused_with_lem (is l) before after r g h =
-    let low : App2.output_by r ≡ Refused r = rw (le-leb r 99 h) in
-    absurd (other r (length l) (sym low ∙ g.told))
-  where
-    other : (r k : ℕ) → Refused r ≡ Written k → ⊥
-    other r k e = let z : ◌≡◌ {A = ℕ} 0 1 = cc in omega arith
+    let low : App2.output_by r ≡ refused r = rw (le-leb r 99 h) in
+    absurd (never (sym low ∙ g.told))
 
 -- the front of an output, and the rest
 pub put_parts : (l q : List ℕ) (n : ℕ) → n ≡ length q → (take n (put l 0 q) ≡ q) × (drop n (put l 0 q) ≡ drop n l)

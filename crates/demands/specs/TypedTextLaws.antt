@@ -33,14 +33,14 @@ record_of e before after held a =
 
 module _ {c : Checked JxlColorEncoding} {before after : List ℕ} {r : ℕ} (h : StoresEncoding c before after r) where
   pub when_refused : {n : ℕ} → c ≡ refused n → (r ≡ n) × (after ≡ before)
-  when_refused e = (h.answer ∙ rw e, h.encoding ∙ rw e)
+  when_refused e = (h.answer ∙ rw e, h.left ∙ rw e)
 
   module _ {e : JxlColorEncoding} (known : c ≡ is e) where
     pub when_short : length before < encoding_size → (r ≡ 9) × (after ≡ before)
-    when_short g = let no = lt-leb encoding_size (length before) g in (h.answer ∙ rw (known, no), h.encoding ∙ rw (known, no))
+    when_short g = let no = lt-leb encoding_size (length before) g in (h.answer ∙ rw (known, no), h.left ∙ rw (known, no))
 
     pub when_stored : encoding_size ≤ length before → (r ≡ 0) × (after ≡ put before 0 (encoding_record e))
-    when_stored g = let long = le-leb encoding_size (length before) g in (h.answer ∙ rw (known, long), h.encoding ∙ rw (known, long))
+    when_stored g = let long = le-leb encoding_size (length before) g in (h.answer ∙ rw (known, long), h.left ∙ rw (known, long))
 
 -- ---- why a number is answered
 

@@ -3,7 +3,7 @@
 -- 3. (That writing XYB always succeeds with enough output is `xyb_answer` of Demand2.) Assumes nothing.
 use Rattle.std.specs.Prelude.{ℕ, ◌<◌, ◌≡◌, List, length, take}
 use Rattle.std.proofs.Common.{sym, ◌∙◌}
-use Rattle.buffer.specs.Checked.{is, refused as refusedBy}
+use Rattle.buffer.specs.Checked.{is, refused as refusedBy, Checked}
 use Rattle.color_encoding.specs.Intent.{intent_number}
 use Rattle.color_encoding.specs.declared.RenderingIntent.{RenderingIntent}
 use Rattle.color_encoding.specs.declared.RenderingIntent.TheVariants.{Perceptual}
@@ -13,9 +13,8 @@ use Rattle.profile.specs.Plan.{FourBytes}
 use Rattle.profile.specs.Layout.{xyb_text, with_id, layout}
 use Rattle.encoding_plan.specs.EncodingPlan.{encoding_with, encoding_plan, counted_encoding_plan}
 use Rattle.encoding_plan.specs.declared.Encoding.{Encoding}
-use Rattle.writer.specs.Writer.{answer, Creates}
+use Rattle.writer.specs.Writer.{profile, answer, Creates}
 use Rattle.writer.specs.WriterLaws.{any_device}
-use Rattle.writer.specs.declared.Profile.TheVariants.{Written, Refused}
 use Rattle.writer_laws.proofs.RefusalNumbers as RefusalNumbers
 use Rattle.reader_spec.specs.Table.{varying_of}
 use Rattle.reader_spec.specs.RefusalList.{accepted, refused, c24, c26}
@@ -47,12 +46,12 @@ matching_text i = Laws.matching_text i
 
 -- ---- the writer
 
-pub never_2 : (e : Encoding) (n : ℕ) → ¬ (answer (counted_encoding_plan e) n ≡ Refused 2)
+pub never_2 : (e : Encoding) (n : ℕ) → ¬ (answer (counted_encoding_plan e) n ≡ refusedBy 2)
 never_2 e n h = RefusalNumbers.never_2 e.adapted e.color n (sym (any_device e n) ∙ h)
 
 -- running code: `maybe_create_profile` ensures `Creates`
 pub written_patched : (maker model : ℕ) (i : RenderingIntent) {n k : ℕ} (before after : List ℕ)
-    → Creates (encoding_with maker model (XYB i)) before after (Written n k) → take n after ≡ patched_xyb i (old_xyb_file maker model)
+    → Creates (encoding_with maker model (XYB i)) before after (profile n k) → take n after ≡ patched_xyb i (old_xyb_file maker model)
 written_patched maker model i before after w = Laws.written_patched maker model i before after w
 
 -- ---- the reader
@@ -68,7 +67,7 @@ module _ (maker model : ℕ) (a : FourBytes maker) (b : FourBytes model) where
 
 -- running code: what `maybe_create_profile` wrote for j, with i in byte 67, as `read` answers to it
 pub written_another : (maker model : ℕ) (i j : RenderingIntent) → ¬ (i ≡ j) → {n k : ℕ} (before after : List ℕ)
-    → Creates (encoding_with maker model (XYB j)) before after (Written n k) → (r : Reading) → Reads (with_byte67 i (take n after)) r → told r ≡ refusedBy 26
+    → Creates (encoding_with maker model (XYB j)) before after (profile n k) → (r : Checked Reading) → Reads (with_byte67 i (take n after)) r → told r ≡ refusedBy 26
 written_another maker model i j other before after w r reads = Laws.written_26 maker model i j other before after w r reads
 
 pub only_above_3 : (f : List ℕ) → read f ≡ refused c24 → 3 < (varying_of f).intent

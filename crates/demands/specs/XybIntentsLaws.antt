@@ -9,7 +9,7 @@ use Rattle.words.specs.WordsLaws.{length-be32}
 use Rattle.buffer.specs.Ascii.{ascii}
 use Rattle.buffer.specs.BufferLaws.{put_over}
 use Rattle.buffer.specs.Bytes.{zeros}
-use Rattle.buffer.specs.Checked.{is, refused as refusedBy}
+use Rattle.buffer.specs.Checked.{is, refused as refusedBy, Checked}
 use Rattle.buffer.specs.First.{fails, later}
 use Rattle.buffer.specs.FirstLaws.{first_fails}
 use Rattle.color_encoding.specs.Intent.{intent_number, intent_name}
@@ -33,8 +33,7 @@ use Rattle.profile.specs.LayoutLaws.{length-header, length-computed, length-layo
 use Rattle.profile.specs.declared.Kind.TheVariants.{Xyb}
 use Rattle.encoding_plan.specs.PlanOf.{color_plan}
 use Rattle.encoding_plan.specs.EncodingPlan.{encoding_with, encoding_plan}
-use Rattle.writer.specs.Writer.{Creates}
-use Rattle.writer.specs.declared.Profile.TheVariants.{Written}
+use Rattle.writer.specs.Writer.{profile, Creates}
 use Rattle.reader_spec.specs.Table.{varying_of, table_of, body_of}
 use Rattle.reader_spec.specs.TableLaws.{table_file, body_file}
 use Rattle.reader_spec.specs.FileLaws.{header_varying, small, computed_exists}
@@ -182,7 +181,7 @@ module _ (maker model : ℕ) where
       ∙ ap (with_letters i) (byte_67 d (length-computed p) i Perceptual)
       ∙ letters d (length-computed p) i Perceptual))
 
-  module _ (i : RenderingIntent) {n k : ℕ} (before after : List ℕ) (w : Creates (encoding_with maker model (XYB i)) before after (Written n k)) where
+  module _ (i : RenderingIntent) {n k : ℕ} (before after : List ℕ) (w : Creates (encoding_with maker model (XYB i)) before after (profile n k)) where
     laid_out : take n after ≡ layout (plan i)
     laid_out =
         let p = written (encoding_with maker model (XYB i)) n before after w in
@@ -256,7 +255,7 @@ module _ (maker model : ℕ) where
           ap read (byte_67 id sixteen i j) ∙ read_is f (refused c26) (refuses first)
 
 pub written_26 : (maker model : ℕ) (i j : RenderingIntent) → ¬ (i ≡ j) → {n k : ℕ} (before after : List ℕ)
-    → Creates (encoding_with maker model (XYB j)) before after (Written n k) → (r : Reading) → r ≡ reading (read (with_byte67 i (take n after))) → told r ≡ refusedBy 26
+    → Creates (encoding_with maker model (XYB j)) before after (profile n k) → (r : Checked Reading) → r ≡ reading (read (with_byte67 i (take n after))) → told r ≡ refusedBy 26
 written_26 maker model i j other {n} before after w r h =
     let p = xyb_plan_with maker model j in
     let crossed : read (with_byte67 i (take n after)) ≡ refused c26 =
