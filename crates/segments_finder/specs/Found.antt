@@ -5,7 +5,6 @@ use Rattle.words.specs.Words.{word16}
 use Rattle.app2.specs.Segments.{Segment}
 use Rattle.app2.specs.Joining.{begins, first, chunk_of}
 use Rattle.app2.specs.App2.{max_segments, complete_segments}
-use Rattle.segments_finder.specs.declared.Places.{Places}
 
 -- the data of the segment whose length stands at the place p of a buffer b
 pub record HasData (b : List ℕ) (p : ℕ) (l : List ℕ) : Type 0 where
@@ -22,10 +21,10 @@ pub record Found (b places : List ℕ) (n : ℕ) : Type 0 where
   pub known : length places ≡ 256
   pub placed : (i : ℕ) → 1 ≤ i → i ≤ n → HasData b (get_or places i 0) (chunk_of i segments)
 
--- the places of their lengths, where a buffer is complete segments
-abbrev pub Finds : List ℕ → Option Places → Type 0
-Finds b None = complete_segments b ≡ refused 54
-Finds b (Some p) = Found b p.at p.count
+-- their number, where a buffer is complete segments
+abbrev pub Finds : List ℕ → List ℕ → Option ℕ → Type 0
+Finds b places None = complete_segments b ≡ refused 54
+Finds b places (Some n) = Found b places n
 
 -- a segment stands at the front of l with the count c, and with a sequence number from 1 to c that has no place yet
 unfoldable pub begins_new : ℕ → List ℕ → List ℕ → Bool

@@ -13,7 +13,7 @@ use app2::LENGTH_WITHOUT_DATA;
 use layout::MAX_LENGTH;
 use reader_checks::SHORTEST;
 use refusals::Refusal;
-use segments_finder::Places;
+use segments_finder::{PLACES, find_segments};
 
 // The data of the segment whose length stands at a place.
 fn data_at(buffer: &[u8], place: usize) -> &[u8]
@@ -25,14 +25,14 @@ fn data_at(buffer: &[u8], place: usize) -> &[u8]
 }
 
 // The data in order of sequence number, as much of it as the output holds; answers the length of all.
-fn gather(buffer: &[u8], places: &Places, out: &mut [u8]) -> usize
-    requires { Found buffer.now places.now.at places.now.count }
+fn gather(buffer: &[u8], places: &[u32; PLACES], count: usize, out: &mut [u8]) -> usize
+    requires { Found buffer.now places.now count }
     ensures { Gathers (data_of buffer.now) out.old out.new result }
 {
     let mut total = 0usize;
     let mut at = 0usize;
-    for i in 1..places.count + 1 {
-        let data = data_at(buffer, places.at[i] as usize);
+    for i in 1..count + 1 {
+        let data = data_at(buffer, places[i] as usize);
         let room = (out.len() - at).min(data.len());
         at = buffer::put_bytes(out, at, &data[..room]);
         total += data.len();
@@ -62,9 +62,10 @@ fn long_refusal(front: &[u8], n: usize) -> Refusal
 pub fn join_segments(segments: &[u8], out: &mut [u8]) -> Result<u32, Refusal>
     ensures { Gives (joined_file segments.now (length out.old)) out.old out.new (checked result) }
 {
-    let places = segments_finder::find_segments(segments).ok_or(Refusal::WrongSegments)?;
+    let mut places = [0u32; PLACES];
+    let count = find_segments(segments, &mut places).ok_or(Refusal::WrongSegments)?;
     let mut whole = [0u8; MAX_LENGTH];
-    let n = gather(segments, &places, &mut whole);
+    let n = gather(segments, &places, count, &mut whole);
     if out.len() < n {
         return Err(Refusal::SegmentsTooShort);
     }

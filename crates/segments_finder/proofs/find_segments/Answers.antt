@@ -10,7 +10,7 @@ use Rattle.segments_finder.proofs.find_segments.Goals as goal
 pub loop-at-init : goal.loop-at-init
 loop-at-init c =
     let bytes = c.type_inv.buffer in
-    (walk _ _, search rules, λ i. (bytes i).fits, c.byte_at-count.ensures, omega (arith, c.byte_at-count.ensures, bytes 17))
+    (rw c.requires (walk _ _), search rules, λ i. (bytes i).fits, c.byte_at-count.ensures, omega (arith, c.byte_at-count.ensures, bytes 17))
 
 pub returns-then-not-begins_new : goal.returns-then-not-begins_new
 returns-then-not-begins_new c =

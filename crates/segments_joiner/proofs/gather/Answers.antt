@@ -16,7 +16,7 @@ put_bytes-at-requires c = let room = in_room _ _ _ _ _ _ _ _ _ c.loop-i.invarian
 pub loop-i-preserved : goal.loop-i-preserved
 loop-i-preserved c =
     let i = c.loop-i.invariant in
-    let small = word16_lt (drop (get_or c.args.places.now.at c.loop-i.i 0) c.args.buffer.now) (bytes_drop _ _ (λ i. (c.type_inv.buffer i).fits)) in
+    let small = word16_lt (drop (get_or c.args.places.now c.loop-i.i 0) c.args.buffer.now) (bytes_drop _ _ (λ i. (c.type_inv.buffer i).fits)) in
     let put = rw (c.min-room.ensures, c.loop-i.auto.out) at c.put_bytes-at.ensures in
     (i.0, onward _ _ _ i.0 _ _ _ _ _ i.1 (omega arith) small c.data_at-data.ensures _ _ put)
 

@@ -25,20 +25,20 @@ module _ {b places : List ℕ} {count : ℕ} (found : Found b places count) (roo
 front_is : {d out : List ℕ} {n : ℕ} → Gathers d (replicate 1240 0) out n → n ≤ 1240 → take n out ≡ d
 front_is {d = d} g h = ap₂ (λ (n : ℕ) (l : List ℕ). take n l) g.all g.front ∙ whole_front (replicate 1240 0) d (omega (arith, g.all))
 
-pub returns-in_err-places : goal.returns-in_err-places
-returns-in_err-places c =
-    let none = rw c.in_err-places.ensures.ok_part at c.find_segments.ensures in
+pub returns-in_err-count : goal.returns-in_err-count
+returns-in_err-count c =
+    let none = rw c.in_err-count.ensures.ok_part at c.find_segments.ensures in
     let same : checked c.from_residual.result ≡ refused 54 = search rules in
     rw same (gives_refusal (joined_54 _ _ none))
 
 pub returns-then-out-n : goal.returns-then-out-n
 returns-then-out-n c =
-    let found : Found _ _ _ = rw c.in_ok-places.ensures.ok_part at c.find_segments.ensures in
+    let found : Found _ _ _ = rw c.in_ok-count.ensures.ok_part at c.find_segments.ensures in
     gives_refusal (too_short found _ (omega (arith, c.gather-n.ensures.all)))
 
 pub returns-then-n-gt-MAX_LENGTH : goal.returns-then-n-gt-MAX_LENGTH
 returns-then-n-gt-MAX_LENGTH c =
-    let found : Found _ _ _ = rw c.in_ok-places.ensures.ok_part at c.find_segments.ensures in
+    let found : Found _ _ _ = rw c.in_ok-count.ensures.ok_part at c.find_segments.ensures in
     let g = c.gather-n.ensures in
     let d = data_of c.args.segments.now in
     let long : 1240 < length d = omega (arith, g.all) in
@@ -48,7 +48,7 @@ returns-then-n-gt-MAX_LENGTH c =
 
 pub returns-in_err-read : goal.returns-in_err-read
 returns-in_err-read c =
-    let found : Found _ _ _ = rw c.in_ok-places.ensures.ok_part at c.find_segments.ensures in
+    let found : Found _ _ _ = rw c.in_ok-count.ensures.ok_part at c.find_segments.ensures in
     let g = c.gather-n.ensures in
     let read = rw (front_is g (omega arith)) at c.in_err-read.ensures in
     let same : checked c.from_residual-in_err-read.result ≡ refused (number c.in_err-read.field-0.0) = search rules in
@@ -56,7 +56,7 @@ returns-in_err-read c =
 
 pub returns : goal.returns
 returns c =
-    let found : Found _ _ _ = rw c.in_ok-places.ensures.ok_part at c.find_segments.ensures in
+    let found : Found _ _ _ = rw c.in_ok-count.ensures.ok_part at c.find_segments.ensures in
     let g = c.gather-n.ensures in
     let front = front_is g (omega arith) in
     let read = rw front at c.in_ok-read.ensures in
