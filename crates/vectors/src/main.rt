@@ -31,7 +31,7 @@ fn lent(s: &mut [u8], n: usize) -> &mut [u8] {
 
 // ---- an answer
 
-// The most bytes that a field of a record holds, or an answer.
+// The most bytes that the fields of a record hold together, or an answer.
 const MOST_FIELD: usize = 65536;
 
 // What is put one after another. What has no room is left out.
@@ -356,20 +356,44 @@ fn digit(b: u8) -> Option<u8> {
     }
 }
 
-// The bytes of a field, of two digits each, with spaces around them, put into a space. None where it is malformed.
-fn decoded<'a>(field: &[u8], space: &'a mut [u8]) -> Option<&'a [u8]> {
+// A byte takes its two digits one after the other.
+fn put_digit(bytes: &mut [u8], n: usize, digit: u8) {
+    if let Some(byte) = bytes.get_mut(n / 2) {
+        *byte = *byte % 16 * 16 | digit;
+    }
+}
+
+// A record: how many bytes its input and its answer have, and what comes behind its line.
+#[derive(Clone, Copy)]
+struct Record<'a> {
+    input: usize,
+    answer: usize,
+    behind: &'a [u8],
+}
+
+// Decodes the fields of a line, which begin behind its letter. None where they are malformed or the line has no end. A digit too many counts as a byte,
+// which no answer has.
+fn record_in<'a>(list: &'a [u8], bytes: &mut [u8]) -> Option<Record<'a>> {
     let mut n = 0usize;
-    for letter in field {
-        if *letter != b' ' {
-            let byte = space.get_mut(n / 2)?;
-            *byte = *byte % 16 * 16 | digit(*letter)?;
-            n = n.wrapping_add(1);
+    let mut input = 0usize;
+    for (i, letter) in list.iter().enumerate() {
+        match *letter {
+            b'\n' => {
+                return Some(Record {
+                    input: input / 2,
+                    answer: n.wrapping_sub(input).wrapping_add(1) / 2,
+                    behind: &list[i + 1..],
+                });
+            }
+            b'=' => input = n,
+            b' ' => {}
+            b => {
+                put_digit(&mut *bytes, n, digit(b)?);
+                n = n.wrapping_add(1);
+            }
         }
     }
-    if n % 2 != 0 {
-        return None;
-    }
-    space.get(..n / 2)
+    None
 }
 
 // The answer of the crates to an input. Whether each check of the program passes.
@@ -399,19 +423,20 @@ fn put_leaf(letter: u8, input: &[u8], answer: &mut Answer) {
 
 // ---- counting
 
-// By the letter of a type, how many records were tried and how many matched; how often a refusal was the answer of one that matched; and the first line
-// that differs, or 0.
-#[derive(Drop)]
-struct Tally {
-    tried: [u64; 256],
-    matched: [u64; 256],
-    refused: [u64; 256],
-    differs: u64,
+// The places of a tally: a letter for how many records of the type were tried, its capital for how many matched; a refusal for how often it was the
+// answer of a matched record; FIRST for the first line that differs, or 0.
+const PLACES: usize = 256;
+
+const FIRST: usize = 255;
+
+fn mark(tally: &mut [u64; PLACES], at: u8) {
+    let place = at as usize;
+    tally[place] = tally[place].wrapping_add(1);
 }
 
-fn mark(counts: &mut [u64; 256], at: u8) {
-    let place = at as usize;
-    counts[place] = counts[place].wrapping_add(1);
+// The capital of a letter.
+fn capital(letter: u8) -> u8 {
+    letter % 32 + 64
 }
 
 // The refusal with which an answer of writer, reader or job begins, or 0.
@@ -422,19 +447,17 @@ fn refusal(letter: u8, number: u32) -> u8 {
     }
 }
 
-// The room for a record's input, for the answer that is due, and for that of the crates.
+// The room for the fields of a record, and for the answer of the crates.
 #[derive(Drop)]
 struct Rooms {
-    input: [u8; MOST_FIELD],
-    due: [u8; MOST_FIELD],
+    fields: [u8; MOST_FIELD],
     answer: Answer,
 }
 
-// The refusal of a record that matches, by the fields behind its letter.
-fn outcome(letter: u8, fields: &[u8], rooms: &mut Rooms) -> Option<u8> {
-    let equals = fields.iter().position(|b| *b == b'=')?;
-    let input = decoded(part(fields, 0, equals), &mut rooms.input)?;
-    let due = decoded(fields.get(equals..)?.get(1..)?, &mut rooms.due)?;
+// The refusal of a record that matches.
+fn outcome(letter: u8, record: Record<'_>, rooms: &mut Rooms) -> Option<u8> {
+    let input = part(&rooms.fields, 0, record.input);
+    let due = part(&rooms.fields, record.input, record.answer);
     rooms.answer.len = 0;
     let passed = put_answer(letter, input, &mut rooms.answer);
     let answer = part(&rooms.answer.bytes, 0, rooms.answer.len);
@@ -445,62 +468,68 @@ fn outcome(letter: u8, fields: &[u8], rooms: &mut Rooms) -> Option<u8> {
     }
 }
 
-fn count(tally: &mut Tally, letter: u8, outcome: Option<u8>, line: u64) {
-    mark(&mut tally.tried, letter);
+fn count(tally: &mut [u64; PLACES], letter: u8, outcome: Option<u8>, line: u64) {
+    mark(&mut *tally, letter);
     match outcome {
         Some(refusal) => {
-            mark(&mut tally.matched, letter);
-            mark(&mut tally.refused, refusal);
+            mark(&mut *tally, capital(letter));
+            mark(tally, refusal);
         }
-        None if tally.differs == 0 => tally.differs = line,
+        None if tally[FIRST] == 0 => tally[FIRST] = line,
         None => {}
     }
 }
 
-// Goes over the records of a list, a line each, which begin in line 2.
-fn replay(records: &[u8], tally: &mut Tally) {
+// Goes over the records of a list, which begin in line 2, up to one that is malformed.
+fn replay(records: &[u8], tally: &mut [u64; PLACES]) {
     let mut rooms = Rooms {
-        input: [0; MOST_FIELD],
-        due: [0; MOST_FIELD],
+        fields: [0; MOST_FIELD],
         answer: Answer {
             bytes: [0; MOST_FIELD],
             len: 0,
         },
     };
-    let mut line = 1u64;
-    for record in records.split(|b| *b == b'\n') {
-        line = line.wrapping_add(1);
-        if let Some((letter, fields)) = record.split_first() {
-            count(
-                &mut *tally,
-                *letter,
-                outcome(*letter, fields, &mut rooms),
-                line,
-            );
-        }
+    let mut rest = records;
+    for line in 2..u64::MAX {
+        let Some((letter, behind)) = rest.split_first() else {
+            return;
+        };
+        let Some(record) = record_in(behind, &mut rooms.fields) else {
+            count(tally, *letter, None, line);
+            return;
+        };
+        count(
+            &mut *tally,
+            *letter,
+            outcome(*letter, record, &mut rooms),
+            line,
+        );
+        rest = record.behind;
     }
 }
 
 // ---- the program
 
-fn print_types<R: Print>(rt: &R, tally: &Tally) -> io::Result<()> {
+fn print_types<R: Print>(rt: &R, tally: &[u64; PLACES]) -> io::Result<()> {
     for letter in b"mbfntcgerj" {
-        let place = *letter as usize;
-        let (name, matched, tried) = (
-            char::from(*letter),
-            tally.matched[place],
-            tally.tried[place],
-        );
+        let name = char::from(*letter);
+        let matched = tally[capital(*letter) as usize];
+        let tried = tally[*letter as usize];
         println!(rt; "{name} {matched} of {tried}")?;
     }
     Ok(())
 }
 
-fn print_refused<R: Print>(rt: &R, who: &str, refusals: &[u8], tally: &Tally) -> io::Result<()> {
+fn print_refused<R: Print>(
+    rt: &R,
+    who: &str,
+    refusals: &[u8],
+    tally: &[u64; PLACES],
+) -> io::Result<()> {
     print!(rt; "{who} refused")?;
     let mut before = " ";
     for refusal in refusals {
-        let often = tally.refused[*refusal as usize];
+        let often = tally[*refusal as usize];
         print!(rt; "{before}{refusal}: {often}")?;
         before = ", ";
     }
@@ -516,22 +545,17 @@ fn room() -> [u8; 1650000]
 
 fn main(rt: HostRuntime) -> io::Result<()> {
     let mut space = room();
-    let mut tally = Tally {
-        tried: [0; 256],
-        matched: [0; 256],
-        refused: [0; 256],
-        differs: 0,
-    };
+    let mut tally = [0u64; PLACES];
     let n = streams::read_file(&rt, "list", &mut space);
     let list = part(&space, 0, n);
     match list.strip_prefix(b"merqyduk vectors, format 5, seed 1, jxl-rs 9b3c1af91e\n") {
         Some(records) => replay(records, &mut tally),
-        None => tally.differs = 1,
+        None => tally[FIRST] = 1,
     }
     print_types(&rt, &tally)?;
     print_refused(&rt, "writer", &[1, 3, 4, 5, 6, 7, 8, 9], &tally)?;
     print_refused(&rt, "reader", &[21, 22, 23, 24, 25, 26, 27, 28], &tally)?;
     print_refused(&rt, "job", &[41, 42, 43], &tally)?;
-    let line = tally.differs;
+    let line = tally[FIRST];
     println!(rt; "first line that differs {line}")
 }
