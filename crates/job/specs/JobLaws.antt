@@ -181,7 +181,3 @@ entry_of w l {n} h i = go (job w l) refl h
     go : (j : Checked (List JobEntry)) → job w l ≡ j → job_answer j ≡ is n → entry_alone (cut w sections l) i ≡ entry_answer (job w l) i
     go (is xs) e h = alone_is w l e i ∙ sym (ap (λ (j : Checked (List JobEntry)). entry_answer j i) e)
     go (refused k) e h = let zero_one : ◌≡◌ {A = ℕ} 0 1 = cc in absurd (omega arith)
-
-pub refused_entry : (j : Checked (List JobEntry)) (i : ℕ) {k : ℕ} → job_answer j ≡ refused k → entry_answer j i ≡ refused k
-refused_entry (is xs) i h = let zero_one : ◌≡◌ {A = ℕ} 0 1 = cc in absurd (omega arith)
-refused_entry (refused n) i h = cc
