@@ -221,9 +221,9 @@ fn value(literal: &[u8]) -> Option<u64> {
         match *b {
             b'u' | b'i' => break,
             b'_' => {}
-            b => n = n
-                .checked_mul(base.into())?
-                .checked_add(char::from(b).to_digit(base)?.into())?,
+            // Behind 2^60 and more a digit may not fit.
+            _ if 0x1000_0000_0000_0000 <= n => return None,
+            b => n = n * u64::from(base) + u64::from(char::from(b).to_digit(base)?),
         }
     }
     Some(n)
