@@ -87,7 +87,7 @@ else
     } | tar -cf - -T -) | tar -xf - -C "$room"
     mkdir -p "$room/crates/leaves/src"
     cp "$here/leaves/lib.rt.in" "$room/crates/leaves/src/lib.rt"
-    echo "leaves staticlib: floats buffer words numbers md5_digest linalg matrix_inverse decimal text color_encoding encoding_codes white_point icc_matrix adaptation colorimetry validate job job_output reading reader" >>"$room/crates.txt"
+    echo "leaves staticlib: floats buffer refusals words numbers md5_digest linalg matrix_inverse decimal text color_encoding encoding_codes white_point icc_matrix adaptation colorimetry validate job job_output reading reader" >>"$room/crates.txt"
     build "$room" leaves
     printf '%s\n' "$sum" >"$libraries/sum"
 fi
