@@ -7,6 +7,9 @@ ghost use Rattle.std.specs.Prelude.{◌≡◌, ◌+◌, ◌/◌, ◌^◌, ◌<�
 ghost use Rattle.buffer.specs.Puts.{PutsText};
 ghost use Rattle.digits.specs.Digits.{digits, last_digits};
 
+// These functions are written out for each number of digits: the program `divisions`, which searches this file, takes the call of a closure or a method
+// for a fault.
+
 // Two digits. n * 103 / 1024 is n / 10 for these n.
 fn put_two(out: &mut [u8], at: usize, n: u64) -> usize
     requires { (n < 100) × (at + 2 ≤ length out.old) }

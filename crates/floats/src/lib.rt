@@ -3,6 +3,7 @@
 
 #![tactic(auto)]
 
+// `abs_below` stands in each of these two: a trait over the formats would have its one line twice as well.
 pub mod binary32;
 pub mod binary64;
 pub mod narrow;
