@@ -1,6 +1,7 @@
 // The writer, the job, the reader, the finder, the parser of descriptions and the two calls on APP2 segments for C and C++, which `host_c` exports. An
 // encoding comes as numbers, a job, a file, a text and segments as bytes, and the output is lent. A call that writes answers the length of
-// what it wrote (284 or more) or a number below 100, and then the output is unchanged; one that reads answers 0 or a number, and then the lent record is unchanged.
+// what it wrote (284 or more) or a number below 100, and then the output is unchanged; one that reads a file, a job or a text
+// answers 0 or a number, and then what is lent is unchanged; the finder answers a size.
 // That there is a call for each kind, and that it takes each number and coordinate by itself, is the C interface, which may not change.
 
 #![tactic(auto)]

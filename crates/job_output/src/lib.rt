@@ -19,7 +19,7 @@ use entry_output::{Listing, Profiles, Stream, put_line};
 use job::JobEntry;
 use refusals::Refusal;
 
-// The most bytes of a listing: a first line of up to 13 (`profiles 765`), and a line of up to 16 for each entry (`2 255 refused 7`); and of the
+// The most bytes of a listing: of a job that is not refused a first line of up to 13 (`profiles 765`), and a line of up to 16 for each entry (`2 255 refused 7`); and of the
 // profiles of a job together (specs/Most.antt).
 pub const MOST_LISTING: usize = 13 + job::MOST_ENTRIES * 16;
 

@@ -43,7 +43,8 @@ fn put_segments(out: &mut [u8], file: &[u8], size: usize, count: usize) -> usize
     at
 }
 
-// How many segments hold n bytes: a quotient by its eight binary digits, since nothing in the library divides integers.
+// How many segments hold n bytes: a quotient by its eight binary digits, since no code of
+// libmerqyduk divides integers (divisions/machine_code.sh).
 fn segments_for(n: usize, size: usize) -> usize
     requires { (1 ≤ size) × (size ≤ max_data) × (n ≤ max_segments * size) }
     ensures { result ≡ (n + (size - 1)) / size }
