@@ -34,9 +34,9 @@ fn coded(
 // The mark "adapted" comes as a number, 0 or 1.
 fn marked(
     code: Result<JxlColorEncoding, Refusal>,
-    adapted: u32,
     maker: u32,
     model: u32,
+    adapted: u32,
 ) -> Result<Encoding, Refusal>
     ensures { checked result ≡ coded_by adapted maker model (checked code) }
 {
@@ -129,7 +129,7 @@ pub fn write_adapted(
 ) -> u32
     ensures { WritesCounted (coded_by adapted maker model (checked code)) out.old out.new rounded.old rounded.new result }
 {
-    answered(created(marked(code, adapted, maker, model), out), rounded)
+    answered(created(marked(code, maker, model, adapted), out), rounded)
 }
 
 // The answer does not depend on maker and model.
@@ -141,5 +141,5 @@ pub fn length_adapted(
 ) -> u32
     ensures { MeasuresCounted (coded_by adapted 0 0 (checked code)) capacity rounded.old rounded.new result }
 {
-    answered(measured(marked(code, adapted, 0, 0), capacity), rounded)
+    answered(measured(marked(code, 0, 0, adapted), capacity), rounded)
 }

@@ -23,7 +23,7 @@ ghost use Rattle.app2.specs.App2.{written_segments, joined_file};
 ghost use Rattle.coded_writer.specs.CodedWriter.{coded, plain, coded_by, WritesCode, MeasuresCode, WritesCounted, MeasuresCounted};
 ghost use Rattle.host.specs.Host.{CountsEntries, profile_number, ReadsPlan, StoresEncoding, FindsElement, GivesNumber};
 
-use color_encoding::{PrimariesXy, WhiteXy};
+use color_encoding::{JxlColorEncoding, PrimariesXy, WhiteXy};
 use refusals::Refusal;
 
 // ---- a call's answer as one number
@@ -35,6 +35,50 @@ fn answered(answer: Result<u32, Refusal>) -> u32
         Ok(number) => number,
         Err(refusal) => refusal.number(),
     }
+}
+
+// ---- an encoding by its numbers, or 43
+
+fn gray(
+    white: u32,
+    wx: f32,
+    wy: f32,
+    curve: u32,
+    gamma: f32,
+    intent: u32,
+) -> Result<JxlColorEncoding, Refusal>
+    ensures { checked result ≡ gray_from (white_point_from white wx wy) (transfer_function_from curve gamma) (intent_from intent) }
+{
+    encoding_codes::gray_from_numbers(white, WhiteXy { wx, wy }, curve, gamma, intent)
+}
+
+fn rgb(
+    white: u32,
+    wx: f32,
+    wy: f32,
+    primaries: u32,
+    rx: f32,
+    ry: f32,
+    gx: f32,
+    gy: f32,
+    bx: f32,
+    by: f32,
+    curve: u32,
+    gamma: f32,
+    intent: u32,
+) -> Result<JxlColorEncoding, Refusal>
+    ensures { checked result ≡ rgb_from (white_point_from white wx wy) (primaries_from primaries rx ry gx gy bx by) (transfer_function_from curve gamma) (intent_from intent) }
+{
+    let own_white = WhiteXy { wx, wy };
+    let own = PrimariesXy {
+        rx,
+        ry,
+        gx,
+        gy,
+        bx,
+        by,
+    };
+    encoding_codes::rgb_from_numbers(white, own_white, primaries, own, curve, gamma, intent)
 }
 
 // ---- the profile of an encoding
@@ -50,12 +94,7 @@ pub fn merqyduk_write_gray(
 ) -> u32
     ensures { WritesCode (plain (gray_from (white_point_from white wx wy) (transfer_function_from curve gamma) (intent_from intent))) out.old out.new result }
 {
-    coded_writer::write(
-        encoding_codes::gray_from_numbers(white, WhiteXy { wx, wy }, curve, gamma, intent),
-        0,
-        0,
-        out,
-    )
+    coded_writer::write(gray(white, wx, wy, curve, gamma, intent), 0, 0, out)
 }
 
 pub fn merqyduk_write_rgb(
@@ -77,21 +116,8 @@ pub fn merqyduk_write_rgb(
     ensures { WritesCode (plain (rgb_from (white_point_from white wx wy) (primaries_from primaries rx ry gx gy bx by) (transfer_function_from curve gamma) (intent_from intent))) out.old out.new result }
 {
     coded_writer::write(
-        encoding_codes::rgb_from_numbers(
-            white,
-            WhiteXy { wx, wy },
-            primaries,
-            PrimariesXy {
-                rx,
-                ry,
-                gx,
-                gy,
-                bx,
-                by,
-            },
-            curve,
-            gamma,
-            intent,
+        rgb(
+            white, wx, wy, primaries, rx, ry, gx, gy, bx, by, curve, gamma, intent,
         ),
         0,
         0,
@@ -120,12 +146,7 @@ pub fn merqyduk_write_gray_device(
 ) -> u32
     ensures { WritesCode (coded false maker model (gray_from (white_point_from white wx wy) (transfer_function_from curve gamma) (intent_from intent))) out.old out.new result }
 {
-    coded_writer::write(
-        encoding_codes::gray_from_numbers(white, WhiteXy { wx, wy }, curve, gamma, intent),
-        maker,
-        model,
-        out,
-    )
+    coded_writer::write(gray(white, wx, wy, curve, gamma, intent), maker, model, out)
 }
 
 pub fn merqyduk_write_rgb_device(
@@ -149,21 +170,8 @@ pub fn merqyduk_write_rgb_device(
     ensures { WritesCode (coded false maker model (rgb_from (white_point_from white wx wy) (primaries_from primaries rx ry gx gy bx by) (transfer_function_from curve gamma) (intent_from intent))) out.old out.new result }
 {
     coded_writer::write(
-        encoding_codes::rgb_from_numbers(
-            white,
-            WhiteXy { wx, wy },
-            primaries,
-            PrimariesXy {
-                rx,
-                ry,
-                gx,
-                gy,
-                bx,
-                by,
-            },
-            curve,
-            gamma,
-            intent,
+        rgb(
+            white, wx, wy, primaries, rx, ry, gx, gy, bx, by, curve, gamma, intent,
         ),
         maker,
         model,
@@ -190,10 +198,7 @@ pub fn merqyduk_length_gray(
 ) -> u32
     ensures { MeasuresCode (plain (gray_from (white_point_from white wx wy) (transfer_function_from curve gamma) (intent_from intent))) capacity result }
 {
-    coded_writer::length(
-        encoding_codes::gray_from_numbers(white, WhiteXy { wx, wy }, curve, gamma, intent),
-        capacity,
-    )
+    coded_writer::length(gray(white, wx, wy, curve, gamma, intent), capacity)
 }
 
 pub fn merqyduk_length_rgb(
@@ -215,21 +220,8 @@ pub fn merqyduk_length_rgb(
     ensures { MeasuresCode (plain (rgb_from (white_point_from white wx wy) (primaries_from primaries rx ry gx gy bx by) (transfer_function_from curve gamma) (intent_from intent))) capacity result }
 {
     coded_writer::length(
-        encoding_codes::rgb_from_numbers(
-            white,
-            WhiteXy { wx, wy },
-            primaries,
-            PrimariesXy {
-                rx,
-                ry,
-                gx,
-                gy,
-                bx,
-                by,
-            },
-            curve,
-            gamma,
-            intent,
+        rgb(
+            white, wx, wy, primaries, rx, ry, gx, gy, bx, by, curve, gamma, intent,
         ),
         capacity,
     )
@@ -255,11 +247,7 @@ pub fn merqyduk_write_gray_counted(
 ) -> u32
     ensures { WritesCounted (plain (gray_from (white_point_from white wx wy) (transfer_function_from curve gamma) (intent_from intent))) out.old out.new rounded.old rounded.new result }
 {
-    coded_writer::write_counted(
-        encoding_codes::gray_from_numbers(white, WhiteXy { wx, wy }, curve, gamma, intent),
-        out,
-        rounded,
-    )
+    coded_writer::write_counted(gray(white, wx, wy, curve, gamma, intent), out, rounded)
 }
 
 pub fn merqyduk_write_rgb_counted(
@@ -282,21 +270,8 @@ pub fn merqyduk_write_rgb_counted(
     ensures { WritesCounted (plain (rgb_from (white_point_from white wx wy) (primaries_from primaries rx ry gx gy bx by) (transfer_function_from curve gamma) (intent_from intent))) out.old out.new rounded.old rounded.new result }
 {
     coded_writer::write_counted(
-        encoding_codes::rgb_from_numbers(
-            white,
-            WhiteXy { wx, wy },
-            primaries,
-            PrimariesXy {
-                rx,
-                ry,
-                gx,
-                gy,
-                bx,
-                by,
-            },
-            curve,
-            gamma,
-            intent,
+        rgb(
+            white, wx, wy, primaries, rx, ry, gx, gy, bx, by, curve, gamma, intent,
         ),
         out,
         rounded,
@@ -321,11 +296,7 @@ pub fn merqyduk_length_gray_counted(
 ) -> u32
     ensures { MeasuresCounted (plain (gray_from (white_point_from white wx wy) (transfer_function_from curve gamma) (intent_from intent))) capacity rounded.old rounded.new result }
 {
-    coded_writer::length_counted(
-        encoding_codes::gray_from_numbers(white, WhiteXy { wx, wy }, curve, gamma, intent),
-        capacity,
-        rounded,
-    )
+    coded_writer::length_counted(gray(white, wx, wy, curve, gamma, intent), capacity, rounded)
 }
 
 pub fn merqyduk_length_rgb_counted(
@@ -348,21 +319,8 @@ pub fn merqyduk_length_rgb_counted(
     ensures { MeasuresCounted (plain (rgb_from (white_point_from white wx wy) (primaries_from primaries rx ry gx gy bx by) (transfer_function_from curve gamma) (intent_from intent))) capacity rounded.old rounded.new result }
 {
     coded_writer::length_counted(
-        encoding_codes::rgb_from_numbers(
-            white,
-            WhiteXy { wx, wy },
-            primaries,
-            PrimariesXy {
-                rx,
-                ry,
-                gx,
-                gy,
-                bx,
-                by,
-            },
-            curve,
-            gamma,
-            intent,
+        rgb(
+            white, wx, wy, primaries, rx, ry, gx, gy, bx, by, curve, gamma, intent,
         ),
         capacity,
         rounded,
@@ -393,7 +351,7 @@ pub fn merqyduk_write_gray_adapted(
     ensures { WritesCounted (coded_by adapted maker model (gray_from (white_point_from white wx wy) (transfer_function_from curve gamma) (intent_from intent))) out.old out.new rounded.old rounded.new result }
 {
     coded_writer::write_adapted(
-        encoding_codes::gray_from_numbers(white, WhiteXy { wx, wy }, curve, gamma, intent),
+        gray(white, wx, wy, curve, gamma, intent),
         adapted,
         maker,
         model,
@@ -416,7 +374,7 @@ pub fn merqyduk_length_gray_adapted(
     ensures { MeasuresCounted (coded_by adapted 0 0 (gray_from (white_point_from white wx wy) (transfer_function_from curve gamma) (intent_from intent))) capacity rounded.old rounded.new result }
 {
     coded_writer::length_adapted(
-        encoding_codes::gray_from_numbers(white, WhiteXy { wx, wy }, curve, gamma, intent),
+        gray(white, wx, wy, curve, gamma, intent),
         adapted,
         capacity,
         rounded,
