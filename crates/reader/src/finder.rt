@@ -8,7 +8,7 @@ use table_lines::Line;
 // What the tag table says of the element of a signature: its offset and its size. There is no such line where the reader refuses the file, and where
 // the tag is absent.
 pub fn find_line(file: &[u8], signature: [u8; 4]) -> Option<Line>
-    ensures { Found result (Finder.found file.now signature) }
+    ensures { Found signature result (Finder.found file.now signature) }
 {
     match crate::read(file) {
         Ok(_) => table_lines::line_of(file, signature),

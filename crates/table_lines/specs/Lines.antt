@@ -1,13 +1,15 @@
 -- A line of code against a line of the tag table. Assumes nothing.
-use Rattle.std.specs.Prelude.{◌≡◌, Option, Some, None}
+use Rattle.std.specs.Prelude.{ℕ, ◌≡◌, true, List, Option, Some, None}
+use Rattle.buffer.specs.Bytes.{same}
 use Rattle.profile.specs.Elements.{Entry}
+use Rattle.reader_spec.specs.Table.{absent}
 use Rattle.table_lines.specs.declared.Line.{Line}
 
 -- the offset and the size are those of an entry
 abbrev pub Tells : Line → Entry → Type 0
 Tells l e = (l.offset ≡ e.offset) × (l.size ≡ e.size)
 
--- and both are 0 where there is no line
-abbrev pub Found : Option Line → Entry → Type 0
-Found (Some l) e = Tells l e
-Found None e = (0 ≡ e.offset) × (0 ≡ e.size)
+-- the entry has the signature that was asked for, or there is none
+abbrev pub Found : List ℕ → Option Line → Entry → Type 0
+Found s (Some l) e = Tells l e × (same e.signature s ≡ true)
+Found s None e = absent ≡ e

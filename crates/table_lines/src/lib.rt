@@ -59,7 +59,7 @@ pub fn line_at(file: &[u8], line: usize) -> Line
 // What the first line with a signature says.
 pub fn line_of(file: &[u8], signature: [u8; 4]) -> Option<Line>
     requires { line_start (Table.tags_of file.now) ≤ length file.now }
-    ensures { Found result (line_of signature (Table.entries_of file.now) Table.absent) }
+    ensures { Found signature result (line_of signature (Table.entries_of file.now) Table.absent) }
 {
     for i in 0..tag_count(file) as usize {
         let at = FIRST_LINE + ENTRY_SIZE * i;

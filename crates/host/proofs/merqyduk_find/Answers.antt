@@ -21,14 +21,14 @@ module _ (c : After-find_line) where
 pub returns-in_default : goal.returns-in_default
 returns-in_default c =
     let same = signed (goal.at.returns-in_default c).After-find_line in
-    element_absent (c.in_default.ensures.1 ∙ ap (λ (e : Entry). e.size) same) refl
+    element_absent (ap (λ (e : Entry). e.size) (c.in_default.ensures ∙ same)) refl
 
 pub returns-then-line-ne0 : goal.returns-then-line-ne0
 returns-then-line-ne0 c =
     let same = signed (goal.at.returns-then-line-ne0 c).After-find_line in
-    element_found (c.in-Some.ensures.1 ∙ ap (λ (e : Entry). e.size) same) c.if-line-ne0.true (c.in-Some.ensures.0 ∙ ap (λ (e : Entry). e.offset) same)
+    element_found (c.in-Some.ensures.0.1 ∙ ap (λ (e : Entry). e.size) same) c.if-line-ne0.true (c.in-Some.ensures.0.0 ∙ ap (λ (e : Entry). e.offset) same)
 
 pub returns-else-line-ne0 : goal.returns-else-line-ne0
 returns-else-line-ne0 c =
     let same = signed (goal.at.returns-else-line-ne0 c).After-find_line in
-    element_absent (c.in-Some.ensures.1 ∙ ap (λ (e : Entry). e.size) same) c.if-line-ne0.false
+    element_absent (c.in-Some.ensures.0.1 ∙ ap (λ (e : Entry). e.size) same) c.if-line-ne0.false

@@ -29,7 +29,7 @@ returns-then-same_bytes c =
     let is : line_of c.args.signature (entries_of f) absent ≡ _ =
     c.loop-i.invariant ∙ line_is _ _ _ (inside b) (sym (compared b) ∙ c.if-same_bytes.true) ∙ sym (line_in_lem f c.loop-i.i (inside b))
     in
-    rw is c.line_at.ensures
+    rw is (c.line_at.ensures, rw (line_in_lem f c.loop-i.i (inside b)) (sym (compared b) ∙ c.if-same_bytes.true))
 
 pub loop-i-preserved : goal.loop-i-preserved
 loop-i-preserved c =
@@ -40,4 +40,4 @@ pub returns : goal.returns
 returns c =
     let f = c.args.file.now in
     let all : c.loop-i.i ≡ tags_of f = omega arith in
-    rw (c.loop-i.invariant, all, line_none f c.args.signature) (refl, refl)
+    rw (c.loop-i.invariant, all, line_none f c.args.signature) refl

@@ -8,7 +8,7 @@ use Rattle.reader.proofs.finder.find_line.Goals as goal
 pub returns-in-Err : goal.returns-in-Err
 returns-in-Err c =
     let f = c.args.file.now in
-    let (n, e) = was_refused (read f) c.in-Err.ensures in rw (found_refused f c.args.signature n e) (refl, refl)
+    let (n, e) = was_refused (read f) c.in-Err.ensures in rw (found_refused f c.args.signature n e) refl
 
 pub line_of-requires : goal.line_of-requires
 line_of-requires c =
