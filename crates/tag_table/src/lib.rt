@@ -13,7 +13,7 @@ ghost use Rattle.tag_table.specs.Places as Places;
 
 use elements::write_icc_tag;
 use profile::{Kind, Shape};
-use tags::{Tag, adapted_gray_tags, cicp_rgb_tags, gray_tags, rgb_tags, xyb_tags};
+use tags::{Tag, adapted_gray_tags, cicp_rgb_tags, own_white_gray_tags, plain_rgb_tags, xyb_tags};
 
 pub const HEADER_SIZE: usize = 128;
 
@@ -80,9 +80,9 @@ pub fn length(shape: Shape) -> usize
 {
     match shape.kind {
         Kind::Gray if shape.adapted => end_of(&adapted_gray_tags(shape)),
-        Kind::Gray => end_of(&gray_tags(shape)),
+        Kind::Gray => end_of(&own_white_gray_tags(shape)),
         Kind::Rgb if shape.cicp => end_of(&cicp_rgb_tags(shape)),
-        Kind::Rgb => end_of(&rgb_tags(shape)),
+        Kind::Rgb => end_of(&plain_rgb_tags(shape)),
         Kind::Xyb => end_of(&xyb_tags()),
     }
 }
@@ -117,9 +117,9 @@ pub fn put_table(out: &mut [u8], shape: Shape) -> usize
 {
     match shape.kind {
         Kind::Gray if shape.adapted => put_lines(out, &adapted_gray_tags(shape)),
-        Kind::Gray => put_lines(out, &gray_tags(shape)),
+        Kind::Gray => put_lines(out, &own_white_gray_tags(shape)),
         Kind::Rgb if shape.cicp => put_lines(out, &cicp_rgb_tags(shape)),
-        Kind::Rgb => put_lines(out, &rgb_tags(shape)),
+        Kind::Rgb => put_lines(out, &plain_rgb_tags(shape)),
         Kind::Xyb => put_lines(out, &xyb_tags()),
     }
 }

@@ -1,10 +1,12 @@
 -- The tags of a profile, in the order of its table. Assumes nothing.
-use Rattle.std.specs.Prelude.{ℕ, Bool, true, false, List, [], ◌∷◌, ◌++◌, map}
+use Rattle.std.specs.Prelude.{ℕ, ◌-◌, Bool, true, false, List, [], ◌∷◌, ◌++◌, map, length, replicate}
+use Rattle.buffer.specs.Bytes.{zeros}
 use Rattle.profile.specs.Elements.{Slot}
 use Rattle.profile.specs.Shape.{xyb_shape, slots_for}
 use Rattle.profile.specs.declared.Kind.TheVariants.{Gray, Rgb, Xyb}
 use Rattle.profile.specs.declared.Shape.{Shape}
 use Rattle.tags.specs.declared.Tag.{Tag}
+use Rattle.tags.specs.declared.Tags.{Tags}
 
 -- the first tag that names an element of n bytes, and one that shares the element of the tag before it
 abbrev pub first : ℕ → List ℕ → Tag
@@ -25,6 +27,10 @@ tags (s ∷ ss) = naming s.size s.signatures ++ tags ss
 -- the most tags of a profile
 abbrev pub max_tags : ℕ
 max_tags = 11
+
+-- tags in an array of so many; the others are unused
+unfoldable pub listed : List Tag → Tags
+listed ts = record { count = length ts; tags = ts ++ replicate (max_tags - length ts) (first 0 (zeros 4)) }
 
 -- ---- the elements of each kind: of gray by whether the white is adapted, of RGB by whether there is `cicp`
 

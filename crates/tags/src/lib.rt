@@ -1,6 +1,6 @@
 // The tags of each kind of profile, in the order of its table. What differs by kind is said here.
 
-#![tactic(auto, unfolding(crate::specs::Tags::tags))]
+#![tactic(auto, unfolding(crate::specs::Tags::tags, crate::specs::Tags::listed))]
 
 ghost use Rattle.std.specs.Prelude.{◌≡◌, ◌≤◌, true, false};
 ghost use Rattle.tags.specs.Tags as Listing;
@@ -34,6 +34,19 @@ pub struct Tag {
     pub size: u32,
     pub shared: bool,
 }
+
+// Tags in fixed memory: the first `count` are tags; the others are unused.
+#[derive(Clone, Copy, Debug, PartialEq, Eq)]
+pub struct Tags {
+    pub count: usize,
+    pub tags: [Tag; MAX_TAGS],
+}
+
+const UNUSED: Tag = Tag {
+    signature: [0; 4],
+    size: 0,
+    shared: false,
+};
 
 // A tag with an element of its own.
 fn own(signature: [u8; 4], size: u32) -> Tag
@@ -72,7 +85,7 @@ fn curve_size(gamma: bool) -> u32
 }
 
 // Of gray whose white is its own.
-pub fn gray_tags(shape: Shape) -> [Tag; 4]
+pub fn own_white_gray_tags(shape: Shape) -> [Tag; 4]
     requires { shape.letters ≤ max_letters }
     ensures { result ≡ Listing.tags (Listing.gray_slots false shape) }
 {
@@ -89,12 +102,12 @@ pub fn adapted_gray_tags(shape: Shape) -> [Tag; 5]
     requires { shape.letters ≤ max_letters }
     ensures { result ≡ Listing.tags (Listing.gray_slots true shape) }
 {
-    let [desc, cprt, wtpt, curve] = gray_tags(shape);
+    let [desc, cprt, wtpt, curve] = own_white_gray_tags(shape);
     [desc, cprt, wtpt, own(*b"chad", CHAD_SIZE), curve]
 }
 
 // Of RGB without `cicp`. The three curves are one element.
-pub fn rgb_tags(shape: Shape) -> [Tag; 10]
+pub fn plain_rgb_tags(shape: Shape) -> [Tag; 10]
     requires { shape.letters ≤ max_letters }
     ensures { result ≡ Listing.tags (Listing.rgb_slots false shape) }
 {
@@ -117,7 +130,7 @@ pub fn cicp_rgb_tags(shape: Shape) -> [Tag; MAX_TAGS]
     requires { shape.letters ≤ max_letters }
     ensures { result ≡ Listing.tags (Listing.rgb_slots true shape) }
 {
-    let [desc, cprt, wtpt, chad, r, g, b, red, green, blue] = rgb_tags(shape);
+    let [desc, cprt, wtpt, chad, r, g, b, red, green, blue] = plain_rgb_tags(shape);
     [
         desc,
         cprt,
@@ -131,6 +144,43 @@ pub fn cicp_rgb_tags(shape: Shape) -> [Tag; MAX_TAGS]
         green,
         blue,
     ]
+}
+
+// Of gray, and of RGB, as the shape has it.
+pub fn gray_tags(shape: Shape) -> Tags
+    requires { shape.letters ≤ max_letters }
+    ensures { result ≡ Listing.listed (Listing.tags (Shapes.slots_for Kind.Gray shape)) }
+{
+    let none = UNUSED;
+    if shape.adapted {
+        let [a, b, c, d, e] = adapted_gray_tags(shape);
+        return Tags {
+            count: 5,
+            tags: [a, b, c, d, e, none, none, none, none, none, none],
+        };
+    }
+    let [a, b, c, d] = own_white_gray_tags(shape);
+    Tags {
+        count: 4,
+        tags: [a, b, c, d, none, none, none, none, none, none, none],
+    }
+}
+
+pub fn rgb_tags(shape: Shape) -> Tags
+    requires { shape.letters ≤ max_letters }
+    ensures { result ≡ Listing.listed (Listing.tags (Shapes.slots_for Kind.Rgb shape)) }
+{
+    if shape.cicp {
+        return Tags {
+            count: MAX_TAGS,
+            tags: cicp_rgb_tags(shape),
+        };
+    }
+    let [a, b, c, d, e, f, g, h, i, j] = plain_rgb_tags(shape);
+    Tags {
+        count: 10,
+        tags: [a, b, c, d, e, f, g, h, i, j, UNUSED],
+    }
 }
 
 pub fn xyb_tags() -> [Tag; 6]

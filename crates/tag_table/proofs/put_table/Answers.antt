@@ -11,7 +11,7 @@ put_lines-requires c =
 
 pub put_lines-requires-in-Gray-2 : goal.put_lines-requires-in-Gray-2
 put_lines-requires-in-Gray-2 c =
-    let e = c.gray_tags.ensures ∙ gray_told c.args.shape false c.in-Gray-2.is c.if-shape.false in
+    let e = c.own_white_gray_tags.ensures ∙ gray_told c.args.shape false c.in-Gray-2.is c.if-shape.false in
     (fits c.args.shape e c.requires.0, room c.args.shape e c.requires.1)
 
 pub put_lines-requires-in-Rgb : goal.put_lines-requires-in-Rgb
@@ -21,7 +21,7 @@ put_lines-requires-in-Rgb c =
 
 pub put_lines-requires-in-Rgb-2 : goal.put_lines-requires-in-Rgb-2
 put_lines-requires-in-Rgb-2 c =
-    let e = c.rgb_tags.ensures ∙ rgb_told c.args.shape false c.in-Rgb-2.is c.if-shape-2.false in
+    let e = c.plain_rgb_tags.ensures ∙ rgb_told c.args.shape false c.in-Rgb-2.is c.if-shape-2.false in
     (fits c.args.shape e c.requires.0, room c.args.shape e c.requires.1)
 
 pub put_lines-requires-in-Xyb : goal.put_lines-requires-in-Xyb
@@ -33,13 +33,13 @@ pub returns-in-Gray : goal.returns-in-Gray
 returns-in-Gray c = puts_table c.args.shape (c.adapted_gray_tags.ensures ∙ gray_told c.args.shape true c.in-Gray.is c.if-shape.true) c.put_lines.ensures
 
 pub returns-in-Gray-2 : goal.returns-in-Gray-2
-returns-in-Gray-2 c = puts_table c.args.shape (c.gray_tags.ensures ∙ gray_told c.args.shape false c.in-Gray-2.is c.if-shape.false) c.put_lines-in-Gray-2.ensures
+returns-in-Gray-2 c = puts_table c.args.shape (c.own_white_gray_tags.ensures ∙ gray_told c.args.shape false c.in-Gray-2.is c.if-shape.false) c.put_lines-in-Gray-2.ensures
 
 pub returns-in-Rgb : goal.returns-in-Rgb
 returns-in-Rgb c = puts_table c.args.shape (c.cicp_rgb_tags.ensures ∙ rgb_told c.args.shape true c.in-Rgb.is c.if-shape-2.true) c.put_lines-in-Rgb.ensures
 
 pub returns-in-Rgb-2 : goal.returns-in-Rgb-2
-returns-in-Rgb-2 c = puts_table c.args.shape (c.rgb_tags.ensures ∙ rgb_told c.args.shape false c.in-Rgb-2.is c.if-shape-2.false) c.put_lines-in-Rgb-2.ensures
+returns-in-Rgb-2 c = puts_table c.args.shape (c.plain_rgb_tags.ensures ∙ rgb_told c.args.shape false c.in-Rgb-2.is c.if-shape-2.false) c.put_lines-in-Rgb-2.ensures
 
 pub returns-in-Xyb : goal.returns-in-Xyb
 returns-in-Xyb c = puts_table c.args.shape (c.xyb_tags.ensures ∙ xyb_told c.args.shape c.in-Xyb.is) c.put_lines-in-Xyb.ensures
