@@ -2,7 +2,7 @@
 
 #![tactic(auto)]
 
-ghost use Rattle.std.specs.Prelude.{◌≡◌, ◌≤◌, replicate};
+ghost use Rattle.std.specs.Prelude.{◌≡◌, ◌≤◌, length, replicate};
 ghost use Rattle.app2.specs.Joining.{begins};
 ghost use Rattle.app2.specs.App2.{max_segments};
 ghost use Rattle.segments_finder.specs.Found.{begins_new, Finds};
@@ -34,8 +34,8 @@ fn begins_segment(buffer: &[u8]) -> bool
 
 // Whether a segment stands there with this count, and with a sequence number from 1 to the count that has no place yet.
 #[tactic(auto, unfolding(crate::specs::Found::begins_new, app2::specs::Joining::first))]
-fn begins_new(buffer: &[u8], count: usize, places: &[u32; PLACES]) -> bool
-    requires { count ≤ max_segments }
+fn begins_new(buffer: &[u8], count: usize, places: &[u32]) -> bool
+    requires { (count ≤ max_segments) × (length places.now ≡ 256) }
     ensures { result ≡ begins_new count places.now buffer.now }
 {
     let sequence = byte_at(buffer, SEQUENCE) as usize;
@@ -48,7 +48,7 @@ fn begins_new(buffer: &[u8], count: usize, places: &[u32; PLACES]) -> bool
 
 // How many complete segments a buffer is; where the length of each stands, by its sequence number, is stored in the places.
 // They are lent: as a part of the answer they are copied, and joining then takes more than 1.3 times the reader's time.
-pub fn find_segments(buffer: &[u8], places: &mut [u32; PLACES]) -> Option<usize>
+pub fn find_segments(buffer: &[u8], places: &mut [u32]) -> Option<usize>
     requires { places.old ≡ replicate 256 0 }
     ensures { Finds buffer.now places.new result }
 {
