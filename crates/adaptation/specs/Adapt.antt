@@ -1,7 +1,6 @@
 -- The chromatic adaptation of a white point to D50 by the Bradford matrices: `adapt_to_xyz_d50` of api/color.rs, and its narrowing, the
 -- `chad_matrix` of `maybe_create_profile`. Assumes nothing.
-use Rattle.std.specs.Prelude.{ℕ, Bool, ◌&&◌, not, cond, List, [], ◌∷◌, Float}
-use Rattle.std.specs.List.{list_any, list_all}
+use Rattle.std.specs.Prelude.{ℕ, Bool, ◌&&◌, ◌||◌, not, cond, List, [], ◌∷◌, Float}
 use Rattle.std.specs.Float.{binary64}
 use Rattle.std.specs.Float.Ieee.{of_bits, eq}
 use Rattle.buffer.specs.Checked.{Checked, is, refused, then}
@@ -47,10 +46,10 @@ diagonal v =
 
 -- Rust's `contains(&0.0)`: -0 is equal to 0
 unfoldable pub has_zero : List Float → Bool
-has_zero v = list_any (λ x. eq x zero) v
+has_zero v = eq (component v 0) zero || eq (component v 1) zero || eq (component v 2) zero
 
 unfoldable pub all_finite : List Float → Bool
-all_finite v = list_all finite v
+all_finite v = finite (component v 0) && finite (component v 1) && finite (component v 2)
 
 -- the cone responses L, M and S of an XYZ
 unfoldable pub lms : List Float → List Float

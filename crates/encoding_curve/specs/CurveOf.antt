@@ -48,7 +48,7 @@ curve_floats (Supported.Gamma g) = one ⊘ g ∷ []
 
 -- ---- the `cicp` tag
 
--- ColourSome of H.273: primaries that it names with D65, and with DCI
+-- ColourPrimaries of H.273: primaries that it names with D65, and with DCI
 abbrev with_d65 : JxlPrimaries → Option ℕ
 with_d65 P.SRGB = Some 1
 with_d65 P.BT2100 = Some 9
