@@ -6,3 +6,4 @@ pub mod Properties
 pub mod CutLaws
 pub mod ParseLaws
 pub mod SegmentExamples
+pub mod TakeLaws

@@ -18,16 +18,9 @@ use Rattle.profile.specs.TagTypes.{join}
 use Rattle.app2.specs.Segments.{Segment}
 use Rattle.app2.specs.App2.{complete_segments}
 use Rattle.app2.specs.Joining.{chunks_from, joined}
+use Rattle.app2.specs.TakeLaws.{take-append}
 use Rattle.segments_finder.specs.Found.{Found}
 use Rattle.segments_joiner.specs.Data.{data_of, Gathers}
-
--- the first bytes of two lists in a row
-take-append : (n : ℕ) (a b : List ℕ) → take n (a ++ b) ≡ take n a ++ take (n - length a) b
-take-append zero a b = let e : 0 ≡ 0 - length a = omega arith in ap (λ (k : ℕ). take k b) e
-take-append (suc n) [] b = let e : suc n ≡ suc n - 0 = omega arith in ap (λ (k : ℕ). take k b) e
-take-append (suc n) (x ∷ a) b =
-    let e : n - length a ≡ suc n - suc (length a) = omega arith in
-    ap (λ (l : List ℕ). x ∷ l) (take-append n a b ∙ ap (λ (k : ℕ). take n a ++ take k b) e)
 
 -- the data of the segments that were found
 pub data_joined : (b : List ℕ) {ss : List Segment} → complete_segments b ≡ is ss → joined ss ≡ data_of b
