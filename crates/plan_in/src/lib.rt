@@ -4,19 +4,19 @@
 
 ghost use Rattle.std.specs.Prelude.{◌≡◌, ◌+◌, ◌*◌, ◌≤◌, length, take, drop};
 ghost use Rattle.buffer.specs.Buffer.{put};
-ghost use Rattle.buffer.specs.Texts.{IsText};
+ghost use Rattle.buffer.specs.Puts.{PutsText};
+ghost use Rattle.profile.specs.Plan.{max_letters};
 ghost use Rattle.profile.specs.Numbers.{content_of, numbers_of, text_of};
 ghost use Rattle.reader_spec.specs.Table as Table;
 ghost use Rattle.reader_spec.specs.PlanIn as PlanIn;
 ghost use Rattle.reader_spec.specs.Steps.{Tabled};
 
-use buffer::Text;
 use fields::{DESC_LINE, gray_curve_line, red_line};
 use header::{MAKER, MODEL};
 use numbers::i32_from_bits;
 use profile::{
-    BT709_GAMMA, Content, Curve, CurveName, GrayWhite, Kind, LINEAR_GAMMA, MAX_LETTERS, MLUC_TEXT,
-    Numbers, SRGB_GAMMA, Shape,
+    BT709_GAMMA, Content, Curve, CurveName, GrayWhite, Kind, LINEAR_GAMMA, MLUC_TEXT, Numbers,
+    SRGB_GAMMA, Shape,
 };
 use table_lines::line_at;
 use words::read_u32_be;
@@ -187,14 +187,14 @@ fn read_letters(file: &[u8], at: usize, letters: usize, text: &mut [u8])
     }
 }
 
-// The text of the one plan that a file of this shape can have.
-pub fn text_in(file: &[u8], shape: Shape) -> Text<MAX_LETTERS>
-    requires { Tabled shape file.now }
-    ensures { IsText (text_of (PlanIn.plan_in file.now)) result }
+// The text of the one plan that a file of this shape can have, to the front of a text. Answers its length. It is lent: as the answer it is copied
+// twice more on the stack.
+pub fn text_in(file: &[u8], shape: Shape, text: &mut [u8]) -> usize
+    requires { Tabled shape file.now × (max_letters ≤ length text.old) }
+    ensures { PutsText text.old 0 (text_of (PlanIn.plan_in file.now)) result text.new }
 {
-    let len = free_letters(shape);
+    let letters = free_letters(shape);
     let at = offset_at(file, DESC_LINE) as usize + MLUC_TEXT;
-    let mut bytes = [0u8; MAX_LETTERS];
-    read_letters(file, at, len, &mut bytes);
-    Text { bytes, len }
+    read_letters(file, at, letters, text);
+    letters
 }

@@ -11,11 +11,12 @@ ghost use Rattle.reader_spec.specs.Steps.{Tabled};
 ghost use Rattle.reader_spec.specs.Read as Read;
 ghost use Rattle.reading.specs.Reading as Answers;
 
+use buffer::Text;
 use comparisons::{header_is, table_is};
 pub use finder::{find, find_line};
 use plan_checks::intent_is_good;
-use profile::Shape;
-pub use reading::Reading;
+use profile::{MAX_LETTERS, Shape};
+pub use reading::{NumberAndPlan, Reading};
 use refusals::Refusal;
 
 // Elements, range and id of a file with the table of a shape.
@@ -24,9 +25,13 @@ fn read_elements(file: &[u8], shape: Shape, intent: u32) -> Result<Reading, Refu
     ensures { checked result ≡ Answers.reading (Read.from_body file.now) }
 {
     let plan = plan_in::numbers_in(file, shape, intent);
-    let text = plan_in::text_in(file, shape);
+    let mut text = Text {
+        bytes: [0; MAX_LETTERS],
+        len: 0,
+    };
+    text.len = plan_in::text_in(file, shape, &mut text.bytes);
     let mark = reader_checks::plan_answer(file, plan, &text.bytes[..text.len])?;
-    Ok(reading::accepted(plan, mark, text))
+    Ok(reading::accepted(plan, u32::from(mark), &text))
 }
 
 // Reads a file.
@@ -53,4 +58,11 @@ pub fn read(file: &[u8]) -> Result<Reading, Refusal>
         return Err(Refusal::WrongTable);
     }
     read_elements(file, shape, intent)
+}
+
+// The same as 01 has it: 0 and the plan, or the refusal's number and a plan of zeros.
+pub fn number_and_plan(file: &[u8]) -> NumberAndPlan
+    ensures { result ≡ Answers.number_and_plan (Answers.reading (Read.read file.now)) }
+{
+    reading::numbered(read(file))
 }

@@ -1,5 +1,5 @@
--- The reader's answer by value: 01's number where the file is refused, and otherwise the plan in numbers. Assumes nothing.
-use Rattle.std.specs.Prelude.{ℕ, ◌-◌, Bool, cond, List, ◌++◌, ℤ, pos, length, replicate, Option, Some, None}
+-- The reader's answer by value: 01's number where the file is refused, and otherwise the plan in numbers; and the same with a plan of zeros beside the number. Assumes nothing.
+use Rattle.std.specs.Prelude.{ℕ, ◌-◌, cond, List, ◌++◌, ℤ, pos, length, replicate, Option, Some, None}
 use Rattle.buffer.specs.Checked.{Checked}
 use Rattle.profile.specs.Plan.{Plan, max_letters}
 use Rattle.profile.specs.Numbers.{kind_of, numbers_of, text_of}
@@ -15,6 +15,7 @@ use Rattle.profile.specs.declared.Content.{Content}
 use Rattle.profile.specs.declared.Content.TheVariants.{Gray, Rgb, Xyb}
 use Rattle.profile.specs.declared.Numbers.{Numbers}
 use Rattle.reader_spec.specs.RefusalList.{Answer, refused, accepted, number}
+use Rattle.reading.specs.declared.NumberAndPlan.{NumberAndPlan}
 use Rattle.reading.specs.declared.Reading.{Reading}
 
 -- ---- the values of the enums
@@ -117,8 +118,8 @@ told Xyb =
 abbrev pub text_array : List ℕ → List ℕ
 text_array t = t ++ replicate (max_letters - length t) 0
 
--- a plan: its numbers, its mark, and its text in an array, of so many letters
-abbrev pub accepted_with : Numbers → Bool → ℕ → List ℕ → Reading
+-- a plan: its numbers, the number of its mark, and its text in an array, of so many letters
+abbrev pub accepted_with : Numbers → ℕ → ℕ → List ℕ → Reading
 accepted_with p m n text =
     let c = told p.content in
     record {
@@ -126,7 +127,7 @@ accepted_with p m n text =
       intent = p.intent;
       maker = p.maker;
       model = p.model;
-      id_not_computed = cond m 1 0;
+      id_not_computed = m;
       curve = c.curve;
       gamma = c.gamma;
       cicp = c.cicp;
@@ -140,8 +141,35 @@ accepted_with p m n text =
     }
 
 abbrev pub plan_reading : Plan → Reading
-plan_reading p = accepted_with (numbers_of p) p.id_not_computed (length (text_of p)) (text_array (text_of p))
+plan_reading p = accepted_with (numbers_of p) (cond p.id_not_computed 1 0) (length (text_of p)) (text_array (text_of p))
 
 abbrev pub reading : Answer → Checked Reading
 reading (refused c) = Checked.refused (number c)
 reading (accepted p) = Checked.is (plan_reading p)
+
+-- ---- the answer as 01 has it, "a number and an all-zero plan"
+
+abbrev pub zero_plan : Reading
+zero_plan =
+    record {
+      kind = 0;
+      intent = 0;
+      maker = 0;
+      model = 0;
+      id_not_computed = 0;
+      curve = 0;
+      gamma = pos 0;
+      cicp = 0;
+      adapted = 0;
+      white_x = pos 0;
+      white_z = pos 0;
+      chad = nine_zeros;
+      columns = nine_zeros;
+      letters = 0;
+      text = replicate max_letters 0;
+    }
+
+-- 0 and the plan, or the refusal's number and the plan of zeros
+abbrev pub number_and_plan : Checked Reading → NumberAndPlan
+number_and_plan (Checked.is r) = record { number = 0; plan = r }
+number_and_plan (Checked.refused n) = record { number = n; plan = zero_plan }

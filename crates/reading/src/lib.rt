@@ -1,12 +1,15 @@
-// The reader's answer by value: the plan in numbers.
+// The reader's answer by value: the plan in numbers; and the refusal's number beside a plan of zeros.
 
 #![tactic(auto)]
 
 ghost use Rattle.std.specs.Prelude.{◌≡◌};
+ghost use Rattle.buffer.specs.Checked.{refused};
+ghost use Rattle.refusals.specs.Refusals.{checked};
 ghost use Rattle.reading.specs.Reading as Answers;
 
 use buffer::Text;
 use profile::{Content, Curve, CurveName, GrayWhite, Kind, MAX_LETTERS, Numbers};
+use refusals::Refusal;
 
 // The plan of an accepted file in numbers, as `struct merqyduk_plan` of the C interface has them.
 #[derive(Clone, Copy, Debug, PartialEq, Eq)]
@@ -26,6 +29,13 @@ pub struct Reading {
     pub columns: [i32; 9],
     pub letters: usize,
     pub text: [u8; MAX_LETTERS],
+}
+
+// The answer as 01 has it: 0 and the plan of an accepted file, or the refusal's number and a plan of zeros.
+#[derive(Clone, Copy, Debug, PartialEq, Eq)]
+pub struct NumberAndPlan {
+    pub number: u32,
+    pub plan: Reading,
 }
 
 fn kind_number(kind: Kind) -> u32
@@ -68,17 +78,16 @@ fn cicp_number(cicp: Option<u8>) -> u32
     }
 }
 
-// The plan in numbers, with its mark: what is not set stays zero.
-pub fn accepted(plan: Numbers, id_not_computed: bool, text: Text<MAX_LETTERS>) -> Reading
-    ensures { result ≡ Answers.accepted_with plan id_not_computed text.len text.bytes }
+// The plan in numbers, with the number of its mark: what is not set stays zero.
+pub fn accepted(plan: Numbers, id_not_computed: u32, text: &Text<MAX_LETTERS>) -> Reading
+    ensures { result ≡ Answers.accepted_with plan id_not_computed text.now.len text.now.bytes }
 {
-    let Text { bytes, len } = text;
     let mut r = Reading {
         kind: kind_number(plan.content.kind()),
         intent: plan.intent,
         maker: plan.maker,
         model: plan.model,
-        id_not_computed: u32::from(id_not_computed),
+        id_not_computed,
         curve: 0,
         gamma: 0,
         cicp: 0,
@@ -87,8 +96,8 @@ pub fn accepted(plan: Numbers, id_not_computed: bool, text: Text<MAX_LETTERS>) -
         white_z: 0,
         chad: [0; 9],
         columns: [0; 9],
-        letters: len,
-        text: bytes,
+        letters: text.len,
+        text: text.bytes,
     };
     match plan.content {
         Content::Gray { curve, white } => {
@@ -118,4 +127,40 @@ pub fn accepted(plan: Numbers, id_not_computed: bool, text: Text<MAX_LETTERS>) -
         Content::Xyb => {}
     }
     r
+}
+
+// A refusal's number and a plan of zeros.
+pub fn refused(number: u32) -> NumberAndPlan
+    ensures { result ≡ Answers.number_and_plan (refused number) }
+{
+    NumberAndPlan {
+        number,
+        plan: Reading {
+            kind: 0,
+            intent: 0,
+            maker: 0,
+            model: 0,
+            id_not_computed: 0,
+            curve: 0,
+            gamma: 0,
+            cicp: 0,
+            adapted: 0,
+            white_x: 0,
+            white_z: 0,
+            chad: [0; 9],
+            columns: [0; 9],
+            letters: 0,
+            text: [0; MAX_LETTERS],
+        },
+    }
+}
+
+// What the reader answers, with its number.
+pub fn numbered(answer: Result<Reading, Refusal>) -> NumberAndPlan
+    ensures { result ≡ Answers.number_and_plan (checked answer) }
+{
+    match answer {
+        Ok(plan) => NumberAndPlan { number: 0, plan },
+        Err(refusal) => refused(refusal.number()),
+    }
 }

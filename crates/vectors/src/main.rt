@@ -177,8 +177,8 @@ fn finds_all(file: &[u8]) -> bool {
         && reader::find(file, *b"mluc").is_empty()
 }
 
-fn put_reading(r: Reading, answer: &mut Answer) {
-    answer.put_words(&[0, r.kind, r.intent, r.curve]);
+fn put_reading(number: u32, r: Reading, answer: &mut Answer) {
+    answer.put_words(&[number, r.kind, r.intent, r.curve]);
     answer.put_signed(&[r.gamma]);
     answer.put_word(r.cicp);
     answer.put_signed(&[r.white_x, r.white_z]);
@@ -191,16 +191,12 @@ fn put_reading(r: Reading, answer: &mut Answer) {
 
 // r: a file; the reader's answer. The elements of an accepted file are found; of a refused one none is.
 fn reading(file: &[u8], answer: &mut Answer) -> bool {
-    match reader::read(file) {
-        Ok(r) => {
-            put_reading(r, answer);
-            finds_all(file)
-        }
-        Err(refusal) => {
-            answer.put_word(refusal.number());
-            answer.put_words(&[0; 30]);
-            reader::find(file, *b"desc").is_empty()
-        }
+    let told = reader::number_and_plan(file);
+    put_reading(told.number, told.plan, answer);
+    if told.number == 0 {
+        finds_all(file)
+    } else {
+        reader::find(file, *b"desc").is_empty()
     }
 }
 
