@@ -65,33 +65,28 @@ pub fn write_u32_be(slice: &mut [u8], pos: usize, value: u32) -> bool
     write(slice, pos, value.to_be_bytes())
 }
 
-// The N bytes from place pos on, of which some lie past the end: these are 0.
-fn last_bytes<const N: usize>(slice: &[u8], pos: usize) -> [u8; N]
-    requires { length slice.now < pos + N }
+// The N bytes from place pos on; bytes past the end are 0. Those that all lie within the slice are copied at once.
+fn bytes_at<const N: usize>(slice: &[u8], pos: usize) -> [u8; N]
     ensures { (i : ℕ) → i < N → get_or result i 0 ≡ get_or slice.now (pos + i) 0 }
 {
     let mut bytes = [0u8; N];
-    if pos < slice.len() {
+    if has_room(slice.len(), pos, N) {
+        bytes.copy_from_slice(&slice[pos..pos + N]);
+    } else if pos < slice.len() {
         put_bytes(&mut bytes, 0, &slice[pos..]);
     }
     bytes
 }
 
-// The word at pos; bytes past the end count 0. A word within the slice is read without an array between, which the compiler would store and load again.
+// The word at pos; bytes past the end count 0.
 pub fn read_u16_be(slice: &[u8], pos: usize) -> u16
     ensures { result ≡ word16 (drop pos slice.now) }
 {
-    if has_room(slice.len(), pos, 2) {
-        return u16::from_be_bytes([slice[pos], slice[pos + 1]]);
-    }
-    u16::from_be_bytes(last_bytes(slice, pos))
+    u16::from_be_bytes(bytes_at(slice, pos))
 }
 
 pub fn read_u32_be(slice: &[u8], pos: usize) -> u32
     ensures { result ≡ word32 (drop pos slice.now) }
 {
-    if has_room(slice.len(), pos, 4) {
-        return u32::from_be_bytes([slice[pos], slice[pos + 1], slice[pos + 2], slice[pos + 3]]);
-    }
-    u32::from_be_bytes(last_bytes(slice, pos))
+    u32::from_be_bytes(bytes_at(slice, pos))
 }

@@ -1,5 +1,5 @@
 -- Each byte of the word is that of its place. Assumes nothing.
-use Rattle.std.proofs.Common.{ℕ, ◌≡◌, ◌<◌, ◌+◌, lit<, get_or, get_or-drop, drop, sym, ◌∙◌, add-zero}
+use Rattle.std.proofs.Common.{ℕ, ◌≡◌, ◌<◌, lit<, get_or, get_or-drop, drop, sym, ◌∙◌}
 use Rattle.words.specs.Words.{word32}
 use Rattle.words.proofs.read_u32_be.Goals as goal
 
@@ -7,11 +7,5 @@ pub returns : goal.returns
 unfolding word32
 returns c =
     let rest = drop c.args.pos c.args.slice.now in
-    let at : (i : ℕ) → i < 4 → get_or c.last_bytes.result i 0 ≡ get_or rest i 0 = λ i h. c.last_bytes.ensures i h ∙ sym (get_or-drop c.args.pos c.args.slice.now i 0) in
-    c.from_be_bytes-2.ensures ∙ rw (at 0 (lit< tt), at 1 (lit< tt), at 2 (lit< tt), at 3 (lit< tt))
-
-pub returns-then-has_room : goal.returns-then-has_room
-unfolding word32
-returns-then-has_room c =
-    let at : (i : ℕ) → get_or (drop c.args.pos c.args.slice.now) i 0 ≡ get_or c.args.slice.now (c.args.pos + i) 0 = λ i. get_or-drop c.args.pos c.args.slice.now i 0 in
-    c.from_be_bytes.ensures ∙ rw (at 0, at 1, at 2, at 3, add-zero c.args.pos)
+    let at : (i : ℕ) → i < 4 → get_or c.bytes_at.result i 0 ≡ get_or rest i 0 = λ i h. c.bytes_at.ensures i h ∙ sym (get_or-drop c.args.pos c.args.slice.now i 0) in
+    c.from_be_bytes.ensures ∙ rw (at 0 (lit< tt), at 1 (lit< tt), at 2 (lit< tt), at 3 (lit< tt))

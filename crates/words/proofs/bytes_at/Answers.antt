@@ -3,7 +3,7 @@ use Rattle.std.proofs.Common.{ℕ, ◌≡◌, List, [], ◌∷◌, ◌++◌, zer
 use Rattle.buffer.specs.Bytes.{zeros}
 use Rattle.buffer.specs.BufferLaws.{put_front}
 use Rattle.words.specs.WordsLaws.{from_on}
-use Rattle.words.proofs.last_bytes.Goals as goal
+use Rattle.words.proofs.bytes_at.Goals as goal
 
 zero_at : (k i : ℕ) → get_or (zeros k) i 0 ≡ 0
 zero_at zero i = refl
