@@ -187,8 +187,8 @@ fn read_letters(file: &[u8], at: usize, letters: usize, text: &mut [u8])
     }
 }
 
-// The text of the one plan that a file of this shape can have, to the front of a text. Answers its length. It is lent: as the answer it is copied
-// twice more on the stack.
+// The text of the one plan that a file of this shape can have, to the front of a text. Answers its length. The text is lent: as
+// the answer it is copied twice more, and reading takes more stack than include/merqyduk.h states.
 pub fn text_in(file: &[u8], shape: Shape, text: &mut [u8]) -> usize
     requires { Tabled shape file.now × (max_letters ≤ length text.old) }
     ensures { PutsText text.old 0 (text_of (PlanIn.plan_in file.now)) result text.new }

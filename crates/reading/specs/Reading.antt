@@ -1,4 +1,5 @@
--- The reader's answer by value: 01's number where the file is refused, and otherwise the plan in numbers; and the same with a plan of zeros beside the number. Assumes nothing.
+-- The reader's answer by value: 01's number where the file is refused, and otherwise the plan in numbers;
+-- and the same with a plan of zeros beside the number. Assumes nothing.
 use Rattle.std.specs.Prelude.{ℕ, ◌-◌, cond, List, ◌++◌, ℤ, pos, length, replicate, Option, Some, None}
 use Rattle.buffer.specs.Checked.{Checked}
 use Rattle.profile.specs.Plan.{Plan, max_letters}

@@ -146,7 +146,7 @@ pub fn cicp_rgb_tags(shape: Shape) -> [Tag; MAX_TAGS]
     ]
 }
 
-// Of gray, and of RGB, as the shape has it.
+// Of gray, and of RGB, as the shape has it. `tag_table` calls each list by itself, so that the compiler works out what is constant in it.
 pub fn gray_tags(shape: Shape) -> Tags
     requires { shape.letters ≤ max_letters }
     ensures { result ≡ Listing.listed (Listing.tags (Shapes.slots_for Kind.Gray shape)) }
